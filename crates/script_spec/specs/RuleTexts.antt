@@ -1,0 +1,186 @@
+use Rattle.std.specs.Prelude.{ℕ, ◌+◌, ◌-◌, Bool, true, false, ◌&&◌, ◌||◌, not, ◌==◌, if◌then◌else◌, List, [], ◌∷◌, ◌++◌, Option, Some, None, Result, Ok, Err, length, take, drop, map, reverse, position, nat_lt}
+use Rattle.std.specs.Option.{option_map}
+use Rattle.std.specs.List.{position_or_len}
+use Rattle.smack_base.specs.Labels.{label_fault}
+use Rattle.smack_base.specs.Modes.{bad_letter, is_letter, is_either_case, letter_b}
+use Rattle.smack_base.specs.declared.label.LabelFault.{LabelFault}
+use Rattle.smack_base.specs.declared.label.LabelFault.TheVariants.{Empty, TooLong}
+use Rattle.script_spec.specs.declared.RuleForm.{RuleForm}
+use Rattle.script_spec.specs.declared.RuleForm.TheVariants.{Long, Short, Change}
+use Rattle.script_spec.specs.declared.LineFault.{LineFault}
+use Rattle.script_spec.specs.declared.LineFault.TheVariants.{Fields, Width, Subject, Object, Allow, Deny, Label}
+use Rattle.script_spec.specs.declared.BadLine.{BadLine}
+use Rattle.script_spec.specs.Texts.{Placed, TextLine, lines_from, words_from, is_blank, is_space}
+
+-- a good line of rules: its number, from 1, and its fields
+pub record RuleWords : Type 0 where
+  pub line : ℕ
+  pub subject : Placed
+  pub object : Placed
+  pub allow : Placed
+  pub deny : Option Placed
+
+-- the first fault of some, in their order
+abbrev pub first_fault : List (Option LineFault) → Option LineFault
+first_fault [] = None
+first_fault (None ∷ more) = first_fault more
+first_fault (Some f ∷ more) = Some f
+
+abbrev pub subject_fault : Placed → Option LineFault
+subject_fault p = option_map (λ f. Subject f) (label_fault p.bytes)
+
+abbrev pub object_fault : Placed → Option LineFault
+object_fault p = option_map (λ f. Object f) (label_fault p.bytes)
+
+abbrev pub allow_fault : Placed → Option LineFault
+allow_fault p = option_map (λ at. Allow at) (bad_letter p.bytes)
+
+abbrev pub deny_fault : Placed → Option LineFault
+deny_fault p = option_map (λ at. Deny at) (bad_letter p.bytes)
+
+-- the good line, unless it has a fault
+abbrev pub unless_fault : Option LineFault → RuleWords → Result RuleWords BadLine
+unless_fault None r = Ok r
+unless_fault (Some f) r = Err (record { line = r.line; fault = f })
+
+abbrev pub fields_fault : ℕ → List Placed → Result RuleWords BadLine
+fields_fault line words = Err (record { line = line; fault = Fields (length words) })
+
+-- a line of subject, object and access
+abbrev pub long_line : ℕ → List Placed → Result RuleWords BadLine
+long_line line (s ∷ o ∷ a ∷ []) =
+    unless_fault (first_fault (subject_fault s ∷ object_fault o ∷ allow_fault a ∷ []))
+    (record { line = line; subject = s; object = o; allow = a; deny = None })
+long_line line words = fields_fault line words
+
+-- a line of subject, object, allow and deny
+abbrev pub change_line : ℕ → List Placed → Result RuleWords BadLine
+change_line line (s ∷ o ∷ a ∷ d ∷ []) =
+    unless_fault (first_fault (subject_fault s ∷ object_fault o ∷ allow_fault a ∷ deny_fault d ∷ []))
+    (record { line = line; subject = s; object = o; allow = a; deny = Some d })
+change_line line words = fields_fault line words
+
+abbrev pub front_spaces : List ℕ → ℕ
+front_spaces bytes = position_or_len (λ b. not (is_space b)) bytes
+
+abbrev pub without_front : List ℕ → List ℕ
+without_front bytes = drop (front_spaces bytes) bytes
+
+-- without the spaces at both ends
+abbrev pub trimmed : Placed → Placed
+trimmed p = record {
+  at = p.at + front_spaces p.bytes;
+  bytes = reverse (without_front (reverse (without_front p.bytes)));
+}
+
+-- the field of this length at this offset of a line
+abbrev pub field : ℕ → ℕ → TextLine → Placed
+field from len l = trimmed (record { at = l.at + from; bytes = take len (drop from l.bytes) })
+
+-- a label of a line of fixed width has at most 23 bytes
+abbrev pub short_label_fault : List ℕ → Option LabelFault
+short_label_fault text = if nat_lt 23 (length text) then Some TooLong else label_fault text
+
+-- the modes of a line of fixed width lack the letter b
+abbrev pub short_bad_letter : List ℕ → Option ℕ
+short_bad_letter text = position (λ b. not (is_letter b) || is_either_case letter_b b) text
+
+abbrev pub short_fields : ℕ → Placed → Placed → Placed → Result RuleWords BadLine
+short_fields line s o a =
+    unless_fault
+    (first_fault
+    (option_map (λ f. Subject f) (short_label_fault s.bytes) ∷ option_map (λ f. Object f) (short_label_fault o.bytes)
+    ∷ option_map (λ at. Allow at) (short_bad_letter a.bytes) ∷ []))
+    (record { line = line; subject = s; object = o; allow = a; deny = None })
+
+-- a line of 53 bytes: subject 24, object 24, access 5
+abbrev pub short_line : ℕ → TextLine → Result RuleWords BadLine
+short_line line l =
+    if length l.bytes == 53 then short_fields line (field 0 24 l) (field 24 24 l) (field 48 5 l)
+    else Err (record { line = line; fault = Width (length l.bytes) })
+
+-- a line without a word is skipped
+abbrev pub unless_bare : List Placed → Result RuleWords BadLine → Option (Result RuleWords BadLine)
+unless_bare [] answer = None
+unless_bare (w ∷ ws) answer = Some answer
+
+abbrev pub blank_words : TextLine → List Placed
+blank_words l = words_from is_blank l.at l.bytes
+
+-- what a line of this form and number is: skipped, good, or bad
+abbrev pub line_answer : RuleForm → ℕ → TextLine → Option (Result RuleWords BadLine)
+line_answer Long line l = unless_bare (blank_words l) (long_line line (blank_words l))
+line_answer Change line l = unless_bare (blank_words l) (change_line line (blank_words l))
+line_answer Short line l = if length l.bytes == 0 then None else Some (short_line line l)
+
+-- nothing follows a bad line
+abbrev pub before_more : {A : Type 0} → Option (Result A BadLine) → List (Result A BadLine) → List (Result A BadLine)
+before_more None more = more
+before_more (Some (Ok r)) more = Ok r ∷ more
+before_more (Some (Err b)) more = Err b ∷ []
+
+-- what lines of this form are, from this number on: each that is not skipped, up to the first bad one
+abbrev pub line_answers : RuleForm → ℕ → List TextLine → List (Result RuleWords BadLine)
+line_answers form line [] = []
+line_answers form line (l ∷ ls) = before_more (line_answer form line l) (line_answers form (line + 1) ls)
+
+-- what a text of this form is, line by line
+abbrev pub rule_answers : RuleForm → List ℕ → List (Result RuleWords BadLine)
+rule_answers form text = line_answers form 1 (lines_from 0 text)
+
+-- all that was good, or the first bad line
+abbrev pub with_first : {A : Type 0} → Result A BadLine → Result (List A) BadLine → Result (List A) BadLine
+with_first (Err b) more = Err b
+with_first (Ok r) (Err b) = Err b
+with_first (Ok r) (Ok rs) = Ok (r ∷ rs)
+
+abbrev pub all_good : {A : Type 0} → List (Result A BadLine) → Result (List A) BadLine
+all_good [] = Ok []
+all_good (r ∷ rs) = with_first r (all_good rs)
+
+-- the rules of a text of this form, or its first bad line
+abbrev pub rules_of_text : RuleForm → List ℕ → Result (List RuleWords) BadLine
+rules_of_text form text = all_good (rule_answers form text)
+
+-- a word of a text, and the number of its line
+pub record LineWord : Type 0 where
+  pub line : ℕ
+  pub word : Placed
+
+abbrev pub line_words : ℕ → List TextLine → List LineWord
+line_words line [] = []
+line_words line (l ∷ ls) = map (λ w. record { line = line; word = w }) (blank_words l) ++ line_words (line + 1) ls
+
+-- the words of a text over all its lines
+abbrev pub all_words : List ℕ → List LineWord
+all_words text = line_words 1 (lines_from 0 text)
+
+abbrev pub unless_label_fault : Option LabelFault → LineWord → Result Placed BadLine
+unless_label_fault None w = Ok w.word
+unless_label_fault (Some f) w = Err (record { line = w.line; fault = Label f })
+
+-- a label of a list, or its fault
+abbrev pub list_word : LineWord → Result Placed BadLine
+list_word w = unless_label_fault (label_fault w.word.bytes) w
+
+abbrev pub is_dash : List ℕ → Bool
+is_dash (b ∷ []) = b == 45
+is_dash bytes = false
+
+abbrev pub words_answers : List LineWord → List (Result Placed BadLine)
+words_answers [] = []
+words_answers (w ∷ ws) = before_more (Some (list_word w)) (words_answers ws)
+
+-- what a text of labels is, word by word; a sole dash is no label and no fault
+abbrev pub label_answers : List LineWord → List (Result Placed BadLine)
+label_answers (w ∷ []) = if is_dash w.word.bytes then [] else words_answers (w ∷ [])
+label_answers words = words_answers words
+
+abbrev pub labels_of_text : List ℕ → Result (List Placed) BadLine
+labels_of_text text = all_good (label_answers (all_words text))
+
+-- the only word of a text; else the fault is at line 1 where there is none, and at the line of the second word
+abbrev pub only_word : List LineWord → Result Placed BadLine
+only_word [] = Err (record { line = 1; fault = Fields 0 })
+only_word (w ∷ []) = Ok w.word
+only_word (w ∷ v ∷ ws) = Err (record { line = v.line; fault = Fields (length (w ∷ v ∷ ws)) })

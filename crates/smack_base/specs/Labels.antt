@@ -1,0 +1,25 @@
+use Rattle.std.specs.Prelude.{ℕ, Bool, false, ◌&&◌, not, ◌==◌, if◌then◌else◌, List, [], ◌∷◌, Option, Some, position, is_none, nat_lt, nat_le, length}
+use Rattle.std.specs.Option.{option_map}
+use Rattle.smack_base.specs.declared.label.LabelFault.{LabelFault}
+use Rattle.smack_base.specs.declared.label.LabelFault.TheVariants.{Empty, TooLong, LeadingDash, BadByte}
+
+-- a byte from ! to ~ that is none of / \ ' "
+abbrev pub is_label_byte : ℕ → Bool
+is_label_byte b = nat_le 33 b && nat_le b 126 && not (b == 47) && not (b == 92) && not (b == 39) && not (b == 34)
+
+-- whether the first byte of a text is a dash
+abbrev pub begins_with_dash : List ℕ → Bool
+begins_with_dash [] = false
+begins_with_dash (b ∷ bs) = b == 45
+
+-- the first fault of a text as a label, if it has one
+abbrev pub label_fault : List ℕ → Option LabelFault
+label_fault text =
+    if length text == 0 then Some Empty
+    else (if nat_lt 255 (length text) then Some TooLong
+    else (if begins_with_dash text then Some LeadingDash
+    else option_map (λ at. BadByte at) (position (λ b. not (is_label_byte b)) text)))
+
+-- whether a text is a label
+abbrev pub is_label : List ℕ → Bool
+is_label text = is_none (label_fault text)

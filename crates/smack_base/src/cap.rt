@@ -1,0 +1,11 @@
+/// A capability that bears on Smack (Smack guide, "Accessing and Altering Smack Labels" and
+/// "Smack Basics").
+#[derive(Clone, Copy, Debug, PartialEq, Eq)]
+pub enum Cap {
+    /// CAP_MAC_ADMIN: change rules, attributes and the own label.
+    MacAdmin,
+    /// CAP_MAC_OVERRIDE: access past a denial.
+    MacOverride,
+    /// CAP_SYS_PTRACE: trace past ptrace policy 1.
+    SysPtrace,
+}

@@ -1,0 +1,190 @@
+ghost use Rattle.std.specs.Prelude.{◌≡◌, ◌<◌, ◌^◌, ◌≤◌, ◌++◌, length, MatchResult, IfSome, Some, None};
+ghost use Rattle.smack_base.specs.Modes.{modes_of, letters_of, is_letter, is_either_case, has_letter, bad_letter, holds, union, without, when};
+
+use std::marker::Model;
+
+/// A set of access modes (Smack guide, "Smack Rules" and "smackfs").
+#[derive(Clone, Copy, Debug, PartialEq, Eq)]
+pub struct Modes {
+    /// `r`
+    pub read: bool,
+    /// `w`
+    pub write: bool,
+    /// `x`
+    pub execute: bool,
+    /// `a`
+    pub append: bool,
+    /// `t`: a new file in a transmuting directory gets the directory's label.
+    pub transmute: bool,
+    /// `b`: kept, and without effect.
+    pub bring_up: bool,
+}
+
+/// The place, from 0, of the first byte that is no mode letter and no `-`.
+#[derive(Clone, Copy, Debug, PartialEq, Eq)]
+pub struct BadLetter {
+    pub at: u32,
+}
+
+fn is_mode_letter(b: u8) -> bool
+    ensures { result ≡ is_letter b }
+{
+    matches!(
+        b,
+        b'r' | b'R' | b'w' | b'W' | b'x' | b'X' | b'a' | b'A' | b't' | b'T' | b'b' | b'B' | b'-'
+    )
+}
+
+fn is_in_either_case(small: u8, b: u8) -> bool
+    requires { 32 ≤ small }
+    ensures { result ≡ is_either_case small b }
+{
+    b == small || b == small - 32
+}
+
+fn has(small: u8, text: &[u8]) -> bool
+    requires { 32 ≤ small }
+    ensures { result ≡ has_letter small text.now }
+{
+    text.iter().any(|b| is_in_either_case(small, *b))
+}
+
+fn first_bad(bytes: &[u8]) -> Option<usize>
+    ensures place { result ≡ bad_letter bytes.now }
+    ensures within { IfSome result (λ at. at < length bytes.now) }
+{
+    bytes.iter().position(|b| !is_mode_letter(*b))
+}
+
+fn set_of(bytes: &[u8]) -> Modes
+    ensures { result ≡ modes_of bytes.now }
+{
+    Modes {
+        read: has(b'r', bytes),
+        write: has(b'w', bytes),
+        execute: has(b'x', bytes),
+        append: has(b'a', bytes),
+        transmute: has(b't', bytes),
+        bring_up: has(b'b', bytes),
+    }
+}
+
+impl Modes {
+    /// No access.
+    pub const NONE: Modes = Modes {
+        read: false,
+        write: false,
+        execute: false,
+        append: false,
+        transmute: false,
+        bring_up: false,
+    };
+
+    /// The set of the letters in a text: any order, either case, repeats and `-` without effect,
+    /// an empty text no access; or the first bad letter.
+    pub fn read(bytes: &[u8]) -> Result<Modes, BadLetter>
+        requires { length bytes.now < 2 ^ 32 }
+        ensures { MatchResult result (λ m. (bad_letter bytes.now ≡ None) × (m ≡ modes_of bytes.now)) (λ bad. bad_letter bytes.now ≡ Some bad.at) }
+    {
+        match first_bad(bytes) {
+            Some(at) => Err(BadLetter { at: at as u32 }),
+            None => Ok(set_of(bytes)),
+        }
+    }
+
+    /// Whether every mode of the other set is in this one.
+    pub fn has(&self, other: Modes) -> bool
+        ensures { result ≡ holds self.now other }
+    {
+        (!other.read || self.read)
+            && (!other.write || self.write)
+            && (!other.execute || self.execute)
+            && (!other.append || self.append)
+            && (!other.transmute || self.transmute)
+            && (!other.bring_up || self.bring_up)
+    }
+
+    /// The modes of either set.
+    pub fn plus(self, other: Modes) -> Modes
+        ensures { result ≡ union self other }
+    {
+        Modes {
+            read: self.read || other.read,
+            write: self.write || other.write,
+            execute: self.execute || other.execute,
+            append: self.append || other.append,
+            transmute: self.transmute || other.transmute,
+            bring_up: self.bring_up || other.bring_up,
+        }
+    }
+
+    /// The modes of this set that are not in the other.
+    pub fn less(self, other: Modes) -> Modes
+        ensures { result ≡ without self other }
+    {
+        Modes {
+            read: self.read && !other.read,
+            write: self.write && !other.write,
+            execute: self.execute && !other.execute,
+            append: self.append && !other.append,
+            transmute: self.transmute && !other.transmute,
+            bring_up: self.bring_up && !other.bring_up,
+        }
+    }
+
+    /// The printed form: the letters of the set in the order `rwxatb`, or `-`.
+    pub fn text(&self) -> ModeText
+        ensures { result ≡ letters_of self.now }
+    {
+        let mut text = ModeText {
+            buf: [0; 6],
+            len: 0,
+        };
+        text.put(self.read, b'r');
+        text.put(self.write, b'w');
+        text.put(self.execute, b'x');
+        text.put(self.append, b'a');
+        text.put(self.transmute, b't');
+        text.put(self.bring_up, b'b');
+        if text.len == 0 {
+            text.put(true, b'-');
+        }
+        text
+    }
+}
+
+/// The printed form of a mode set: 1 to 6 bytes.
+#[derive(Debug, Drop)]
+pub struct ModeText {
+    buf: [u8; 6],
+    len: usize,
+}
+
+impl Model for ModeText {
+    ghost use Rattle.std.specs.Prelude.{List, ℕ, take, ◌≤◌};
+
+    ghost Value = { List ℕ };
+
+    ghost view = { λ t. take t.len t.buf };
+
+    ghost invariant = { λ t. t.len ≤ 6 };
+}
+
+impl ModeText {
+    fn put(&mut self, on: bool, letter: u8)
+        requires { length self.old < 6 }
+        ensures { self.new ≡ self.old ++ when on letter }
+    {
+        if on {
+            self.buf[self.len] = letter;
+            self.len += 1;
+        }
+    }
+
+    /// The bytes of the text.
+    pub fn bytes(&self) -> &[u8]
+        ensures { result.now ≡ self.now }
+    {
+        &self.buf[..self.len]
+    }
+}
