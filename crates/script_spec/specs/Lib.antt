@@ -1,2 +1,3 @@
-pub mod Texts
-pub mod RuleTexts
+pub mod Words
+pub mod Files
+pub mod Grammar

@@ -1,50 +1,35 @@
-//! What texts mean: lines and words, the lines of rule texts, and the grammar of a script. Plain
-//! data; the definitions stand in `specs/`.
+//! What scripts mean: the verbs and the kinds of their words, what the text of a smackfs file
+//! becomes, and the grammar. Plain data; the definitions stand in `specs/`.
 //!
-//! `Texts` cuts a list of bytes into lines and words, each with its place. `RuleTexts` says what
-//! the lines of each form of rule text are, and the first fault of a line that is not. `Grammar`
-//! says which lists of bytes are a script, and which line of any other list is the first bad one.
+//! `Words` has the table of verbs and what each kind of word is. `Files` says what a text that is
+//! written to a smackfs file becomes, or why it is refused. `Grammar` says which lists of bytes
+//! are a script, and for any other list which line is the first bad one, and why.
 #![tactic(auto)]
 
-use smack_base::LabelFault;
+use smack_base::{Ids, Pairs, RuleOps};
+use text_spec::BadLine;
+use thiserror::Error;
 
-/// The forms of a text of rules (Smack guide, "smackfs").
+/// What a line of a script does: its second word.
 #[derive(Clone, Copy, Debug, PartialEq, Eq)]
-pub enum RuleForm {
-    /// `subject object access`, parted by spaces or tabs (`load2`).
-    Long,
-    /// Lines of 53 bytes: subject 24, object 24, access 5 (`load`).
-    Short,
-    /// `subject object allow deny`, parted by spaces or tabs (`change-rule`).
-    Change,
+pub enum Verb {
+    /// `write FILE N`: writes the next N lines to a smackfs file.
+    Write,
+    /// `ask LABEL LABEL MODES`: asks whether a subject has modes on an object.
+    Ask,
 }
 
-/// What is wrong with a line of a text of rules, the first in this order.
+/// What a word behind a verb may be.
 #[derive(Clone, Copy, Debug, PartialEq, Eq)]
-pub enum LineFault {
-    /// So many fields stand in the line, and not as many as its form has.
-    Fields { n: u32 },
-    /// The line has so many bytes, and neither 0 nor 53.
-    Width { n: u32 },
-    /// The subject is no label.
-    Subject(LabelFault),
-    /// The object is no label.
-    Object(LabelFault),
-    /// The byte at this place of the access field, from 0, is the first that is no mode letter.
-    Allow { at: u32 },
-    /// The same of the field of modes to be taken away.
-    Deny { at: u32 },
-    /// The word of a list is no label.
-    Label(LabelFault),
-    /// The word is no number that the file takes.
+pub enum WordKind {
+    /// A label.
+    Label,
+    /// A set of access modes.
+    Modes,
+    /// The name of a smackfs file.
+    File,
+    /// A decimal number up to 4,294,967,295.
     Number,
-}
-
-/// The first bad line of a text: its number, from 1, and its first fault.
-#[derive(Clone, Copy, Debug, PartialEq, Eq)]
-pub struct BadLine {
-    pub line: u32,
-    pub fault: LineFault,
 }
 
 /// Why a line is not in the grammar of scripts.
@@ -64,7 +49,7 @@ pub enum Cause {
     Name,
     /// The task that is waited for is not the one to wait for.
     Wait,
-    /// The line is of a kind that this program does not have yet.
+    /// The line is of a kind that this program does not have.
     NotBuilt,
 }
 
@@ -83,4 +68,46 @@ pub enum What {
     Text,
     /// Rows of the journal: for each accepted text its rule writes and one.
     Rows,
+}
+
+/// Why bytes are no script.
+#[derive(Clone, Copy, Debug, PartialEq, Eq, Error)]
+pub enum ScriptFault {
+    /// The first bad line, from 1, and why it is bad.
+    #[error("line {line} is not in the grammar")]
+    Malformed { line: u32, cause: Cause },
+    /// The limit that is exceeded first.
+    #[error("the script is too large")]
+    TooLarge { what: What },
+    /// Want of memory.
+    #[error("out of memory")]
+    Memory,
+}
+
+/// Why a write to a smackfs file is refused, the first in this order.
+#[derive(Clone, Copy, Debug, PartialEq, Eq)]
+pub enum Refusal {
+    /// There is no such file.
+    NoSuchFile,
+    /// The text has more than 65,536 bytes.
+    TooLong,
+    /// The first bad line, and its first fault.
+    BadLine(BadLine),
+    /// No line is bad; this one is the first with a label that the table lacks.
+    UnknownLabel { line: u32 },
+    /// The writer lacks CAP_MAC_ADMIN.
+    NotPrivileged,
+    /// The journal, which has so many rows, has no room.
+    JournalFull { rows: u32 },
+}
+
+/// What the text of a smackfs file becomes.
+#[derive(Debug, Drop)]
+pub enum Compiled {
+    /// A batch of rule writes.
+    Rules(RuleOps),
+    /// Self rules of the writing task.
+    SelfRules(Pairs),
+    /// The labels that the writing task may take.
+    Relabels(Ids),
 }

@@ -5,12 +5,12 @@ use Rattle.smack_base.specs.Labels.{label_fault}
 use Rattle.smack_base.specs.Modes.{bad_letter, is_letter, is_either_case, letter_b}
 use Rattle.smack_base.specs.declared.label.LabelFault.{LabelFault}
 use Rattle.smack_base.specs.declared.label.LabelFault.TheVariants.{Empty, TooLong}
-use Rattle.script_spec.specs.declared.RuleForm.{RuleForm}
-use Rattle.script_spec.specs.declared.RuleForm.TheVariants.{Long, Short, Change}
-use Rattle.script_spec.specs.declared.LineFault.{LineFault}
-use Rattle.script_spec.specs.declared.LineFault.TheVariants.{Fields, Width, Subject, Object, Allow, Deny, Label}
-use Rattle.script_spec.specs.declared.BadLine.{BadLine}
-use Rattle.script_spec.specs.Texts.{Placed, TextLine, lines_from, words_from, is_blank, is_space}
+use Rattle.text_spec.specs.declared.RuleForm.{RuleForm}
+use Rattle.text_spec.specs.declared.RuleForm.TheVariants.{Long, Short, Change}
+use Rattle.text_spec.specs.declared.LineFault.{LineFault}
+use Rattle.text_spec.specs.declared.LineFault.TheVariants.{Fields, Width, Subject, Object, Allow, Deny, Label}
+use Rattle.text_spec.specs.declared.BadLine.{BadLine}
+use Rattle.text_spec.specs.Texts.{Placed, TextLine, lines_from, words_from, is_blank, is_space}
 
 -- a good line of rules: its number, from 1, and its fields
 pub record RuleWords : Type 0 where

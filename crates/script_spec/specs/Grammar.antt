@@ -1,0 +1,198 @@
+use Rattle.std.specs.Prelude.{ℕ, ◌+◌, ◌-◌, Bool, true, false, ◌&&◌, ◌||◌, not, ◌==◌, if◌then◌else◌, List, [], ◌∷◌, Option, Some, None, Result, Ok, Err, is_ok, length, take, codes, zero, suc, nat_lt, nat_le}
+use Rattle.std.specs.List.{flat_map}
+use Rattle.std.specs.Str.{bytes_eq}
+use Rattle.text_spec.specs.declared.BadLine.{BadLine}
+use Rattle.text_spec.specs.declared.RuleForm.TheVariants.{Long}
+use Rattle.text_spec.specs.Texts.{Placed, TextLine, lines_from, words_from, whole_line, whole_lines, is_space}
+use Rattle.text_spec.specs.RuleTexts.{RuleWords, rules_of_text}
+use Rattle.text_spec.specs.Names.{predefined, with_names}
+use Rattle.script_spec.specs.declared.Verb.{Verb}
+use Rattle.script_spec.specs.declared.Verb.TheVariants.{Write, Ask}
+use Rattle.script_spec.specs.declared.Cause.TheVariants.{NotBuilt}
+use Rattle.script_spec.specs.declared.What.TheVariants.{Bytes, Labels}
+use Rattle.script_spec.specs.declared.ScriptFault.{ScriptFault}
+use Rattle.script_spec.specs.declared.ScriptFault.TheVariants.{Malformed, TooLarge}
+use Rattle.script_spec.specs.Words.{verb_of, kinds_of, are_of_kinds, number_of}
+
+-- A call of a script: its task, its number among the calls of the task, from 1, the number of its line, from 1, its
+-- words behind the task, and its text. A word or a text that it does not have is empty.
+pub record ScriptLine : Type 0 where
+  pub task : ℕ
+  pub seq : ℕ
+  pub line : ℕ
+  pub verb : Placed
+  pub one : Placed
+  pub two : Placed
+  pub three : Placed
+  pub text : Placed
+
+-- the most bytes of a script
+abbrev pub most_bytes : ℕ
+most_bytes = 65536
+
+-- the most labels of a script, the predefined ones included
+abbrev pub most_labels : ℕ
+most_labels = 65535
+
+abbrev pub spaced_words : TextLine → List Placed
+spaced_words l = words_from is_space l.at l.bytes
+
+abbrev pub is_comment : List ℕ → Bool
+is_comment [] = false
+is_comment (b ∷ bs) = b == 35
+
+abbrev pub is_bare : List Placed → Bool
+is_bare [] = true
+is_bare (w ∷ ws) = false
+
+-- a line that is skipped: empty, of spaces, or one that begins with #
+abbrev pub is_skipped : TextLine → Bool
+is_skipped l = is_comment l.bytes || is_bare (spaced_words l)
+
+abbrev pub or_zero : Option ℕ → ℕ
+or_zero None = 0
+or_zero (Some n) = n
+
+abbrev pub text_count_of : Option Verb → Placed → ℕ
+text_count_of (Some Write) count = or_zero (number_of count.bytes)
+text_count_of (Some Ask) count = 0
+text_count_of None count = 0
+
+-- how many of the lines behind a line of these words are its text
+abbrev pub text_count : List Placed → ℕ
+text_count (task ∷ verb ∷ file ∷ count ∷ []) = text_count_of (verb_of verb.bytes) count
+text_count words = 0
+
+-- a line that is neither skipped nor text: its number, its words, the place behind it, and the lines behind it
+pub record Item : Type 0 where
+  pub line : ℕ
+  pub words : List Placed
+  pub behind : ℕ
+  pub after : List TextLine
+
+abbrev pub item_of : ℕ → TextLine → List TextLine → Item
+item_of line l after = record {
+  line = line;
+  words = spaced_words l;
+  behind = l.at + length (whole_line l);
+  after = after;
+}
+
+-- the items of lines from this number on, of which so many are text of an item before
+abbrev pub items : ℕ → ℕ → List TextLine → List Item
+items line text [] = []
+items line text (l ∷ ls) =
+    if text == 0
+    then (if is_skipped l then items (line + 1) 0 ls
+    else item_of line l ls ∷ items (line + 1) (text_count (spaced_words l)) ls)
+    else items (line + 1) (text - 1) ls
+
+-- the bytes of the text of an item
+abbrev pub text_bytes : Item → List ℕ
+text_bytes i = whole_lines (take (text_count i.words) i.after)
+
+abbrev pub absent : Placed
+absent = record { at = 0; bytes = [] }
+
+-- the word behind so many others
+abbrev pub word_at : ℕ → List Placed → Placed
+word_at k [] = absent
+word_at zero (w ∷ ws) = w
+word_at (suc k) (w ∷ ws) = word_at k ws
+
+-- the call of an item
+abbrev pub call_of : ℕ → Item → ScriptLine
+call_of seq i = record {
+  task = 0;
+  seq = seq;
+  line = i.line;
+  verb = word_at 1 i.words;
+  one = word_at 2 i.words;
+  two = word_at 3 i.words;
+  three = word_at 4 i.words;
+  text = record { at = i.behind; bytes = text_bytes i };
+}
+
+abbrev pub are_words_of : Option Verb → List Placed → Bool
+are_words_of None words = false
+are_words_of (Some verb) words = are_of_kinds (kinds_of verb) words
+
+-- the words of a call: the first task, a verb, and words of its kinds
+abbrev pub are_words : List Placed → Bool
+are_words [] = false
+are_words (task ∷ []) = false
+are_words (task ∷ verb ∷ words) = bytes_eq task.bytes (codes "init") && are_words_of (verb_of verb.bytes) words
+
+-- the text of an item is all there, and no line of it is bad
+abbrev pub has_text : Item → Bool
+has_text i = nat_le (text_count i.words) (length i.after) && is_ok (rules_of_text Long (text_bytes i))
+
+-- the labels of a text that is accepted
+abbrev pub rule_labels : Result (List RuleWords) BadLine → List (List ℕ)
+rule_labels (Err bad) = []
+rule_labels (Ok rules) = flat_map (λ r. r.subject.bytes ∷ r.object.bytes ∷ []) rules
+
+abbrev pub labels_by : Option Verb → ScriptLine → List (List ℕ)
+labels_by None l = []
+labels_by (Some Write) l = rule_labels (rules_of_text Long l.text.bytes)
+labels_by (Some Ask) l = l.one.bytes ∷ l.two.bytes ∷ []
+
+-- the labels of a call, in order
+abbrev pub labels_of : ScriptLine → List (List ℕ)
+labels_of l = labels_by (verb_of l.verb.bytes) l
+
+-- the label table of a script: the predefined labels, and then its own in order, each once
+abbrev pub table_of : List ScriptLine → List (List ℕ)
+table_of lines = with_names predefined (flat_map labels_of lines)
+
+-- what is known before an item: how many calls stand before it, and the label table of these
+pub record Known : Type 0 where
+  pub calls : ℕ
+  pub labels : List (List ℕ)
+
+abbrev pub known_first : Known
+known_first = record { calls = 0; labels = predefined }
+
+abbrev pub known_call : Known → Item → ScriptLine
+known_call known i = call_of (known.calls + 1) i
+
+abbrev pub known_after : Known → Item → Known
+known_after known i = record {
+  calls = known.calls + 1;
+  labels = with_names known.labels (labels_of (known_call known i));
+}
+
+abbrev pub fault_if : Bool → ScriptFault → Option ScriptFault
+fault_if bad fault = if bad then Some fault else None
+
+-- the first fault of some, in their order
+abbrev pub first_of : List (Option ScriptFault) → Option ScriptFault
+first_of [] = None
+first_of (None ∷ more) = first_of more
+first_of (Some f ∷ more) = Some f
+
+-- what an item breaks, the grammar before the limits
+abbrev pub item_fault : Known → Item → Option ScriptFault
+item_fault known i =
+    first_of
+    (fault_if (not (are_words i.words && has_text i)) (Malformed i.line NotBuilt)
+    ∷ fault_if (nat_lt most_labels (length (known_after known i).labels)) (TooLarge Labels) ∷ [])
+
+abbrev pub put_first : ScriptLine → Result (List ScriptLine) ScriptFault → Result (List ScriptLine) ScriptFault
+put_first x (Ok xs) = Ok (x ∷ xs)
+put_first x (Err e) = Err e
+
+abbrev pub unless_fault : Option ScriptFault → ScriptLine → Result (List ScriptLine) ScriptFault → Result (List ScriptLine) ScriptFault
+unless_fault None x more = put_first x more
+unless_fault (Some e) x more = Err e
+
+-- the calls of items, or the first fault
+abbrev pub calls_of : Known → List Item → Result (List ScriptLine) ScriptFault
+calls_of known [] = Ok []
+calls_of known (i ∷ is) = unless_fault (item_fault known i) (known_call known i) (calls_of (known_after known i) is)
+
+-- the script that these bytes are, or the first line that breaks the grammar or a limit
+abbrev pub parse : List ℕ → Result (List ScriptLine) ScriptFault
+parse bytes =
+    if nat_lt most_bytes (length bytes) then Err (TooLarge Bytes)
+    else calls_of known_first (items 1 0 (lines_from 0 bytes))
