@@ -1,0 +1,7 @@
+use Rattle.std.proofs.Common.{◌∙◌}
+use Rattle.std.specs.List.{each_same}
+use Rattle.label_table.proofs.Places.{texts_of_copies}
+use Rattle.label_table.proofs.labels.LabelsDuplicate.copy.Goals as goal
+
+pub returns : goal.returns
+returns c = texts_of_copies (λ t. t.items) _ (λ x y same. each_same x.items y.items same.0) c.self.inside.texts.keys c.in_ok-texts.texts.keys c.in_ok-texts.ensures.cases ∙ c.self.view_is

@@ -1,0 +1,120 @@
+ghost use Rattle.std.specs.Prelude.{◌≡◌, ◌<◌, ◌≤◌, ◌↔◌, false, length, slice_index_or, map, [], IfOk, IfSome, OnOk, OnErr};
+ghost use Rattle.text_spec.specs.Names.{predefined, place_of, has_name, with_name, id_of};
+
+use indexmap::IndexSet;
+use smack_base::{Duplicate, Label, LabelId};
+use std::alloc::{AllocError, Global};
+use std::marker::Model;
+use thiserror::Error;
+
+/// Why a label got no id.
+#[derive(Clone, Copy, Debug, PartialEq, Eq, Error)]
+pub enum LabelsFault {
+    /// The label is new, and 65,535 labels stand.
+    #[error("a label table has at most 65535 labels")]
+    TooMany,
+    /// There is no memory for it.
+    #[error("out of memory")]
+    Memory,
+}
+
+/// The labels of a run by id, the predefined ones first.
+#[derive(Drop)]
+pub struct Labels {
+    texts: IndexSet<Vec<u8>>,
+}
+
+impl Model for Labels {
+    ghost use Rattle.std.specs.Prelude.{List, ℕ, map, length, ◌≤◌};
+
+    ghost Value = { List (List ℕ) };
+
+    ghost view = { λ l. map (λ t. t.items) l.texts.keys };
+
+    ghost invariant = { λ l. length (map (λ t. t.items) l.texts.keys) ≤ 65535 };
+}
+
+/// Puts a text last, unless it is there.
+fn put(texts: &mut IndexSet<Vec<u8>>, text: &[u8]) -> Result<(), AllocError>
+    ensures ok { OnOk result (map (λ t. t.items) texts.new.keys ≡ with_name (map (λ t. t.items) texts.old.keys) text.now) }
+    ensures err { OnErr result (texts.new.keys ≡ texts.old.keys) }
+{
+    let text = Vec::from_slice(*texts.allocator(), text)?;
+    texts.insert(text)?;
+    Ok(())
+}
+
+impl Labels {
+    /// How many labels a table has at most.
+    pub const LIMIT: usize = 65_535;
+
+    /// The predefined labels: `_`, `^`, `*`, `?` and `@`, in this order.
+    pub fn new(alloc: Global) -> Result<Labels, AllocError>
+        ensures { IfOk result (λ l. l ≡ predefined) }
+    {
+        let mut texts = IndexSet::new(alloc);
+        put(&mut texts, b"_")?;
+        put(&mut texts, b"^")?;
+        put(&mut texts, b"*")?;
+        put(&mut texts, b"?")?;
+        put(&mut texts, b"@")?;
+        Ok(Labels { texts })
+    }
+
+    /// The id of a label: the one that it has, or the next. On an error the table is as before.
+    /// `TooMany` comes exactly where the label is new and 65,535 labels stand.
+    pub fn add(&mut self, label: &Label) -> Result<LabelId, LabelsFault>
+        ensures table { IfOk result (λ id. (self.new ≡ with_name self.old label.now) × (id.0 ≡ place_of self.new label.now)) }
+        ensures named { IfOk result (λ id. (id.0 < length self.new) × (slice_index_or self.new id.0 [] ≡ label.now)) }
+        ensures limit { IfOk result (λ _. length self.new ≤ 65535) }
+        ensures too_many { (result ≡ Err LabelsFault.TooMany) ↔ ((has_name self.old label.now ≡ false) × (length self.old ≡ 65535)) }
+        ensures err { OnErr result (self.new ≡ self.old) }
+    {
+        if let Some(id) = self.id(label.bytes()) {
+            return Ok(id);
+        }
+        let place = self.texts.len();
+        if place == Labels::LIMIT {
+            return Err(LabelsFault::TooMany);
+        }
+        let Ok(()) = put(&mut self.texts, label.bytes()) else {
+            return Err(LabelsFault::Memory);
+        };
+        Ok(LabelId(place as u16))
+    }
+
+    /// The id of a label text; `None` exactly where it is not in the table. Takes no memory.
+    pub fn id(&self, bytes: &[u8]) -> Option<LabelId>
+        ensures id { result ≡ id_of self.now bytes.now }
+        ensures named { IfSome result (λ id. (id.0 < length self.now) × (slice_index_or self.now id.0 [] ≡ bytes.now)) }
+    {
+        match self.texts.get_index_of(bytes) {
+            Some(place) => Some(LabelId(place as u16)),
+            None => None,
+        }
+    }
+
+    /// The text of the label with this id.
+    pub fn name(&self, id: LabelId) -> &[u8]
+        requires { id.0 < length self.now }
+        ensures text { result.now ≡ slice_index_or self.now id.0 [] }
+        ensures own { place_of self.now result.now ≡ id.0 }
+    {
+        self.texts.as_slice()[id.0 as usize].as_slice()
+    }
+
+    /// How many labels stand, at most 65,535.
+    pub fn len(&self) -> u32
+        ensures len { result ≡ length self.now }
+        ensures limit { result ≤ 65535 }
+    {
+        self.texts.len() as u32
+    }
+}
+
+impl Duplicate for Labels {
+    fn copy(&self) -> Result<Labels, AllocError> {
+        let texts = self.texts.clone()?;
+        Ok(Labels { texts })
+    }
+}

@@ -1,0 +1,13 @@
+use Rattle.std.specs.Prelude.{◌≡◌, ℕ, ◌+◌, ◌<◌, ◌⊎◌, min}
+
+-- the last value of a count of faults, where it stays
+abbrev pub last_count : ℕ
+last_count = 18446744073709551615
+
+-- the count rose: it is greater after than before, or it stands at its last value
+abbrev pub Rose : ℕ → ℕ → Type 0
+Rose before after = (before < after) ⊎ (after ≡ last_count)
+
+-- the count after one more fault
+abbrev pub after_fault : ℕ → ℕ
+after_fault count = min (count + 1) last_count

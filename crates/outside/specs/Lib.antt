@@ -1,0 +1,7 @@
+pub mod Faults
+pub mod Source
+pub mod Sink
+pub mod Calls
+pub mod Memory
+pub mod Standard
+pub mod Reading

@@ -1,0 +1,7 @@
+use Rattle.std.specs.Prelude.{ℕ, ◌-◌, List, Option, Some, None, length}
+
+-- how many bytes were taken, where the source tells
+abbrev pub taken_count : Option (List ℕ) → Option (List ℕ) → Option ℕ
+taken_count None after = None
+taken_count (Some before) None = None
+taken_count (Some before) (Some after) = Some (length before - length after)

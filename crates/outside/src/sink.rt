@@ -1,0 +1,34 @@
+ghost use Rattle.std.specs.Prelude.{◌≡◌, ◌<◌, ◌≤◌, ℕ, List, Option, Err, length, take, IfOk, OnErr};
+ghost use Rattle.outside.specs.Faults.{Rose};
+ghost use Rattle.outside.specs.Sink.{Appends};
+
+use thiserror::Error;
+
+/// Why nothing of a piece was taken.
+#[derive(Clone, Copy, Debug, PartialEq, Eq, Error)]
+pub enum SinkFault {
+    /// The write failed, and the sink's count of faults rose.
+    #[error("a write failed")]
+    Failed,
+    /// There was no memory for the bytes.
+    #[error("out of memory")]
+    Memory,
+}
+
+/// Where bytes go, in their order.
+pub trait Sink {
+    /// The bytes taken, where the sink tells them.
+    ghost taken: { Self → Option (List ℕ) };
+
+    /// The count of faults.
+    ghost faults: { Self → ℕ };
+
+    /// Takes a front of `piece`, and answers its length, which is 0 only for an empty piece.
+    fn write(&mut self, piece: &[u8]) -> Result<usize, SinkFault>
+        ensures count { IfOk result (λ n. n ≤ length piece.now) }
+        ensures some { IfOk result (λ n. 0 < length piece.now → 0 < n) }
+        ensures bytes { IfOk result (λ n. Appends (taken self.old) (taken self.new) (take n piece.now)) }
+        ensures untaken { OnErr result (taken self.new ≡ taken self.old) }
+        ensures later { faults self.old ≤ faults self.new }
+        ensures failed { result ≡ Err SinkFault.Failed → Rose (faults self.old) (faults self.new) };
+}

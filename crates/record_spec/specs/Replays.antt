@@ -1,0 +1,78 @@
+use Rattle.std.specs.Prelude.{ℕ, List, [], ◌∷◌, ◌++◌, Option, Some, None, Result, Ok, Err, if◌then◌else◌, length, fold, codes}
+use Rattle.smack_base.specs.Modes.{modes_of, is_modes}
+use Rattle.smack_base.specs.declared.modes.Modes.{Modes}
+use Rattle.smack_base.specs.declared.ids.LabelId.{LabelId}
+use Rattle.rules_spec.specs.declared.Batch.{Batch}
+use Rattle.rules_spec.specs.Rulings.{ruling}
+use Rattle.rules_spec.specs.Cases.{verdict_of_cases}
+use Rattle.text_spec.specs.Names.{id_of}
+use Rattle.script_spec.specs.declared.Verb.{Verb}
+use Rattle.script_spec.specs.declared.Verb.TheVariants.{Write, Ask as AskVerb}
+use Rattle.script_spec.specs.declared.Refusal.{Refusal}
+use Rattle.script_spec.specs.declared.Compiled.{Compiled}
+use Rattle.script_spec.specs.declared.Compiled.TheVariants.{Rules, SelfRules, Relabels}
+use Rattle.script_spec.specs.Words.{verb_of}
+use Rattle.script_spec.specs.Files.{compiled}
+use Rattle.script_spec.specs.Grammar.{ScriptLine, table_of}
+use Rattle.record_spec.specs.declared.AskedLine.{AskedLine}
+use Rattle.record_spec.specs.declared.AskedWhat.TheVariants.{Ask}
+use Rattle.record_spec.specs.declared.RunRecord.{RunRecord}
+
+-- what the calls so far have left
+pub record Run : Type 0 where
+  pub journal : List Batch
+  pub asked : List AskedLine
+
+abbrev pub run_first : Run
+run_first = record { journal = []; asked = [] }
+
+-- a text that is accepted is published as one batch
+abbrev pub published : Run → ScriptLine → Result Compiled Refusal → Run
+published run l (Ok (Rules ops)) = record {
+  journal = run.journal ++ (record { task = l.task; seq = l.seq; ops = ops }) ∷ [];
+  asked = run.asked;
+}
+published run l (Ok (SelfRules rules)) = run
+published run l (Ok (Relabels labels)) = run
+published run l (Err refusal) = run
+
+-- a question is answered by the ordered cases in the newest version
+abbrev pub answered : Run → ScriptLine → Option LabelId → Option LabelId → Option Modes → Run
+answered run l (Some s) (Some o) (Some m) = record {
+  journal = run.journal;
+  asked = run.asked ++ (record {
+    task = l.task;
+    seq = l.seq;
+    version = length run.journal;
+    what = Ask (verdict_of_cases (ruling run.journal) s o m);
+  }) ∷ [];
+}
+answered run l (Some s) (Some o) None = run
+answered run l (Some s) None m = run
+answered run l None o m = run
+
+abbrev pub modes_in : List ℕ → Option Modes
+modes_in word = if is_modes word then Some (modes_of word) else None
+
+abbrev pub after_verb : List (List ℕ) → Run → ScriptLine → Option Verb → Run
+after_verb table run l (Some Write) = published run l (compiled table l.one.bytes l.text.bytes)
+after_verb table run l (Some AskVerb) =
+    answered run l (id_of table l.one.bytes) (id_of table l.two.bytes) (modes_in l.three.bytes)
+after_verb table run l None = run
+
+-- the run after one more call
+abbrev pub after_line : List (List ℕ) → Run → ScriptLine → Run
+after_line table run l = after_verb table run l (verb_of l.verb.bytes)
+
+-- the calls of a script in written order
+abbrev pub run_of : List (List ℕ) → List ScriptLine → Run
+run_of table lines = fold (after_line table) run_first lines
+
+-- the record of a script that is replayed
+abbrev pub replayed : List ScriptLine → RunRecord
+replayed lines = let run = run_of (table_of lines) lines in record {
+  labels = table_of lines;
+  names = codes "init" ∷ [];
+  journal = run.journal;
+  asked = run.asked;
+}

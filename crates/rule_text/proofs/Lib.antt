@@ -1,0 +1,9 @@
+pub mod Places
+pub mod FirstLine
+pub mod FirstWord
+pub mod WholeLines
+pub mod LineSlices
+pub mod WordSlices
+pub mod MovedPlaces
+pub mod Trimmed
+pub mod ChangeLine

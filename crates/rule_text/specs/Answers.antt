@@ -1,0 +1,21 @@
+use Rattle.std.specs.Prelude.{Some, Result, Ok, Err}
+use Rattle.std.specs.Option.{option_map}
+use Rattle.text_spec.specs.declared.BadLine.{BadLine}
+use Rattle.text_spec.specs.Texts.{Placed}
+use Rattle.text_spec.specs.RuleTexts.{RuleWords, deny_fault, unless_fault}
+use Rattle.rule_text.specs.declared.rule_line.RuleLine.{RuleLine}
+use Rattle.rule_text.specs.Parts.{placed}
+
+-- a good line, its fields as runs of bytes
+abbrev pub fields_of : RuleLine → RuleWords
+fields_of r = record { line = r.line; subject = placed r.subject; object = placed r.object; allow = placed r.allow; deny = option_map placed r.deny }
+
+-- an answer, its fields as runs of bytes
+abbrev pub seen : Result RuleLine BadLine → Result RuleWords BadLine
+seen (Ok r) = Ok (fields_of r)
+seen (Err b) = Err b
+
+-- a good line with modes to be taken away, unless they have a fault
+abbrev pub denying : Placed → RuleWords → Result RuleWords BadLine
+denying deny r =
+    unless_fault (deny_fault deny) (record { line = r.line; subject = r.subject; object = r.object; allow = r.allow; deny = Some deny })

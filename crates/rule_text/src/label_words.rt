@@ -1,0 +1,123 @@
+ghost use Rattle.std.specs.Prelude.{◌≡◌, ◌≤◌, ◌∷◌, [], length, MatchOption};
+ghost use Rattle.text_spec.specs.RuleTexts.{all_words, label_answers, only_word, is_dash, list_word};
+ghost use Rattle.rule_text.specs.LeftWords.{left_words, line_word, IsShort};
+ghost use Rattle.rule_text.specs.LabelAnswers.{seen_word, is_sole_dash};
+
+use crate::part::Part;
+use crate::rule_line::fault_of_label;
+use crate::text_words::{NextWord, TextWords};
+use text_spec::{BadLine, LineFault};
+use std::marker::Model;
+
+/// The labels of a text, over all its lines, up to the first word that is none. A contract sees
+/// the answers that are still to come.
+#[derive(Debug, Drop)]
+pub struct LabelWords<'a> {
+    left: TextWords<'a>,
+}
+
+impl<'a> Model for LabelWords<'a> {
+    ghost use Rattle.std.specs.Prelude.{List, Result};
+    ghost use Rattle.text_spec.specs.declared.BadLine.{BadLine as BadLineOf};
+    ghost use Rattle.text_spec.specs.Texts.{Placed};
+    ghost use Rattle.text_spec.specs.RuleTexts.{words_answers};
+
+    ghost Value = { List (Result Placed BadLineOf) };
+
+    ghost use Rattle.rule_text.specs.LeftWords.{left_words, IsShort};
+
+    ghost view = { λ s. words_answers (left_words s.left) };
+
+    ghost invariant = { λ s. IsShort s.left };
+}
+
+fn is_dash_alone(bytes: &[u8]) -> bool
+    ensures { result ≡ is_dash bytes.now }
+{
+    match bytes {
+        [b] => *b == b'-',
+        _ => false,
+    }
+}
+
+/// Whether the only word that is left is a dash.
+fn is_only_dash(words: TextWords) -> bool
+    requires { IsShort words }
+    ensures { result ≡ is_sole_dash (left_words words.entry) }
+{
+    match words.next() {
+        Some(first) => is_dash_alone(first.word.bytes) && first.left.next().is_none(),
+        None => false,
+    }
+}
+
+/// The label that a word is.
+fn read_label<'a>(next: NextWord<'a>) -> Result<Part<'a>, BadLine>
+    ensures { seen_word result ≡ list_word (line_word next.entry) }
+{
+    match fault_of_label(next.word.bytes) {
+        Some(fault) => Err(BadLine {
+            line: next.line,
+            fault: LineFault::Label(fault),
+        }),
+        None => Ok(next.word),
+    }
+}
+
+impl<'a> LabelWords<'a> {
+    /// The labels of a text of at most 65,536 bytes. A dash that is its only word stands for none.
+    pub fn of(text: &'a [u8]) -> LabelWords<'a>
+        requires { length text.now ≤ 65536 }
+        ensures { result ≡ label_answers (all_words text.now) }
+    {
+        let words = TextWords::of(text);
+        if is_only_dash(words) {
+            LabelWords { left: words.end() }
+        } else {
+            LabelWords { left: words }
+        }
+    }
+
+    /// The next label, or the first word that is none; None where there is none, and behind a bad
+    /// one.
+    pub fn next(&mut self) -> Option<Result<Part<'a>, BadLine>>
+        ensures { MatchOption result ((self.old ≡ []) × (self.new ≡ [])) (λ r. self.old ≡ seen_word r ∷ self.new) }
+    {
+        let Some(next) = self.left.next() else {
+            return None;
+        };
+        match read_label(next) {
+            Ok(label) => {
+                self.left = next.left;
+                Some(Ok(label))
+            }
+            Err(bad) => {
+                self.left = next.left.end();
+                Some(Err(bad))
+            }
+        }
+    }
+}
+
+/// The only word of a text of at most 65,536 bytes. Where it has none, the fault is in line 1, and
+/// where it has more than one, in the line of the second.
+pub fn one_word(text: &[u8]) -> Result<Part<'_>, BadLine>
+    requires { length text.now ≤ 65536 }
+    ensures { seen_word result ≡ only_word (all_words text.now) }
+{
+    let Some(first) = TextWords::of(text).next() else {
+        return Err(BadLine {
+            line: 1,
+            fault: LineFault::Fields { n: 0 },
+        });
+    };
+    match first.left.next() {
+        None => Ok(first.word),
+        Some(second) => Err(BadLine {
+            line: second.line,
+            fault: LineFault::Fields {
+                n: 2 + second.left.count(),
+            },
+        }),
+    }
+}

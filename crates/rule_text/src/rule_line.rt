@@ -1,0 +1,67 @@
+ghost use Rattle.std.specs.Prelude.{◌≡◌};
+ghost use Rattle.smack_base.specs.Labels.{label_fault};
+ghost use Rattle.text_spec.specs.RuleTexts.{subject_fault, object_fault, allow_fault, deny_fault};
+ghost use Rattle.rule_text.specs.Parts.{Fits, placed};
+
+use crate::part::Part;
+use text_spec::LineFault;
+use smack_base::{Label, LabelFault, Modes};
+
+/// A good line of rules: its number in the text, from 1, and its fields, each at its place in the
+/// text.
+#[derive(Clone, Copy, Debug)]
+pub struct RuleLine<'a> {
+    pub line: u32,
+    pub subject: Part<'a>,
+    pub object: Part<'a>,
+    pub allow: Part<'a>,
+    /// The modes to be taken away, which only a line of changes has.
+    pub deny: Option<Part<'a>>,
+}
+
+pub(crate) fn fault_of_label(text: &[u8]) -> Option<LabelFault>
+    ensures { result ≡ label_fault text.now }
+{
+    match Label::read(text) {
+        Ok(_) => None,
+        Err(fault) => Some(fault),
+    }
+}
+
+pub(crate) fn fault_of_subject(subject: Part) -> Option<LineFault>
+    ensures { result ≡ subject_fault (placed subject.entry) }
+{
+    match fault_of_label(subject.bytes) {
+        Some(fault) => Some(LineFault::Subject(fault)),
+        None => None,
+    }
+}
+
+pub(crate) fn fault_of_object(object: Part) -> Option<LineFault>
+    ensures { result ≡ object_fault (placed object.entry) }
+{
+    match fault_of_label(object.bytes) {
+        Some(fault) => Some(LineFault::Object(fault)),
+        None => None,
+    }
+}
+
+pub(crate) fn fault_of_allow(allow: Part) -> Option<LineFault>
+    requires { Fits allow }
+    ensures { result ≡ allow_fault (placed allow.entry) }
+{
+    match Modes::read(allow.bytes) {
+        Ok(_) => None,
+        Err(bad) => Some(LineFault::Allow { at: bad.at }),
+    }
+}
+
+pub(crate) fn fault_of_deny(deny: Part) -> Option<LineFault>
+    requires { Fits deny }
+    ensures { result ≡ deny_fault (placed deny.entry) }
+{
+    match Modes::read(deny.bytes) {
+        Ok(_) => None,
+        Err(bad) => Some(LineFault::Deny { at: bad.at }),
+    }
+}

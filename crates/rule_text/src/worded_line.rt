@@ -1,0 +1,125 @@
+ghost use Rattle.std.specs.Prelude.{◌≡◌, ◌∷◌, []};
+ghost use Rattle.std.specs.Option.{option_map};
+ghost use Rattle.text_spec.specs.declared.RuleForm.TheVariants.{Long, Change};
+ghost use Rattle.text_spec.specs.RuleTexts.{line_answer, long_line, change_line};
+ghost use Rattle.rule_text.specs.Parts.{Fits, placed, as_line};
+ghost use Rattle.rule_text.specs.Answers.{seen, fields_of, denying};
+
+use crate::part::Part;
+use crate::rule_line::{
+    RuleLine, fault_of_allow, fault_of_deny, fault_of_object, fault_of_subject,
+};
+use crate::words::{Separator, split_word, word_count};
+use text_spec::{BadLine, LineFault};
+
+fn wrong_fields<'a>(line: u32, n: u32) -> Result<RuleLine<'a>, BadLine>
+    ensures { result ≡ Err (record { line = line; fault = LineFault.Fields n }) }
+{
+    Err(BadLine {
+        line,
+        fault: LineFault::Fields { n },
+    })
+}
+
+fn judge_long<'a>(
+    line: u32,
+    subject: Part<'a>,
+    object: Part<'a>,
+    allow: Part<'a>,
+) -> Result<RuleLine<'a>, BadLine>
+    requires { Fits allow }
+    ensures { seen result ≡ long_line line (placed subject.entry ∷ placed object.entry ∷ placed allow.entry ∷ []) }
+{
+    if let Some(fault) = fault_of_subject(subject) {
+        return Err(BadLine { line, fault });
+    }
+    if let Some(fault) = fault_of_object(object) {
+        return Err(BadLine { line, fault });
+    }
+    match fault_of_allow(allow) {
+        Some(fault) => Err(BadLine { line, fault }),
+        None => Ok(RuleLine {
+            line,
+            subject,
+            object,
+            allow,
+            deny: None,
+        }),
+    }
+}
+
+/// A line of subject, object and access; None where it has no word.
+pub(crate) fn read_long<'a>(line: u32, text: Part<'a>) -> Option<Result<RuleLine<'a>, BadLine>>
+    requires { Fits text }
+    ensures { option_map seen result ≡ line_answer Long line (as_line text.entry) }
+{
+    let Some((subject, rest)) = split_word(text, Separator::Blank) else {
+        return None;
+    };
+    let Some((object, rest)) = split_word(rest, Separator::Blank) else {
+        return Some(wrong_fields(line, 1));
+    };
+    let Some((allow, rest)) = split_word(rest, Separator::Blank) else {
+        return Some(wrong_fields(line, 2));
+    };
+    match word_count(rest) {
+        0 => Some(judge_long(line, subject, object, allow)),
+        n => Some(wrong_fields(line, 3 + n)),
+    }
+}
+
+fn with_deny<'a>(rule: RuleLine<'a>, deny: Part<'a>) -> Result<RuleLine<'a>, BadLine>
+    requires { Fits deny }
+    ensures { seen result ≡ denying (placed deny.entry) (fields_of rule.entry) }
+{
+    match fault_of_deny(deny) {
+        Some(fault) => Err(BadLine {
+            line: rule.line,
+            fault,
+        }),
+        None => Ok(RuleLine {
+            deny: Some(deny),
+            ..rule
+        }),
+    }
+}
+
+fn judge_change<'a>(
+    line: u32,
+    subject: Part<'a>,
+    object: Part<'a>,
+    allow: Part<'a>,
+    deny: Part<'a>,
+) -> Result<RuleLine<'a>, BadLine>
+    requires allow_fits { Fits allow }
+    requires deny_fits { Fits deny }
+    ensures { seen result ≡ change_line line (placed subject.entry ∷ placed object.entry ∷ placed allow.entry ∷ placed deny.entry ∷ []) }
+{
+    match judge_long(line, subject, object, allow) {
+        Err(bad) => Err(bad),
+        Ok(rule) => with_deny(rule, deny),
+    }
+}
+
+/// A line of subject, object, allow and deny; None where it has no word.
+pub(crate) fn read_change<'a>(line: u32, text: Part<'a>) -> Option<Result<RuleLine<'a>, BadLine>>
+    requires { Fits text }
+    ensures { option_map seen result ≡ line_answer Change line (as_line text.entry) }
+{
+    let Some((subject, rest)) = split_word(text, Separator::Blank) else {
+        return None;
+    };
+    let Some((object, rest)) = split_word(rest, Separator::Blank) else {
+        return Some(wrong_fields(line, 1));
+    };
+    let Some((allow, rest)) = split_word(rest, Separator::Blank) else {
+        return Some(wrong_fields(line, 2));
+    };
+    let Some((deny, rest)) = split_word(rest, Separator::Blank) else {
+        return Some(wrong_fields(line, 3));
+    };
+    match word_count(rest) {
+        0 => Some(judge_change(line, subject, object, allow, deny)),
+        n => Some(wrong_fields(line, 4 + n)),
+    }
+}

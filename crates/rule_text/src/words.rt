@@ -1,0 +1,97 @@
+ghost use Rattle.std.specs.Prelude.{◌≡◌, ◌<◌, ◌≤◌, ◌+◌, ◌∷◌, [], not, length, position, MatchOption, IfSome};
+ghost use Rattle.std.specs.List.{position_or_len};
+ghost use Rattle.text_spec.specs.Texts.{is_blank};
+ghost use Rattle.rule_text.specs.Parts.{Fits, end_of, placed, words_of};
+ghost use Rattle.rule_text.specs.Separators.{separates};
+
+use crate::part::Part;
+
+/// What parts the words of a line.
+#[derive(Clone, Copy, Debug, PartialEq, Eq)]
+pub enum Separator {
+    /// A space.
+    Space,
+    /// A space or a tab.
+    Blank,
+}
+
+fn is_separator(separator: Separator, b: u8) -> bool
+    ensures { result ≡ separates separator b }
+{
+    match separator {
+        Separator::Space => b == b' ',
+        Separator::Blank => b == b' ' || b == b'\t',
+    }
+}
+
+fn first_bare(separator: Separator, bytes: &[u8]) -> Option<usize>
+    ensures { result ≡ position (λ b. not (separates separator b)) bytes.now }
+{
+    bytes.iter().position(|b| !is_separator(separator, *b))
+}
+
+fn first_separator(separator: Separator, bytes: &[u8]) -> Option<usize>
+    ensures { result ≡ position (separates separator) bytes.now }
+{
+    bytes.iter().position(|b| is_separator(separator, *b))
+}
+
+/// How many separators stand in front.
+#[tactic(auto, using(crate::proofs::Places::no_place, crate::proofs::Places::place_within))]
+pub(crate) fn blank_len(separator: Separator, bytes: &[u8]) -> usize
+    ensures place { result ≡ position_or_len (λ b. not (separates separator b)) bytes.now }
+    ensures within { result ≤ length bytes.now }
+{
+    match first_bare(separator, bytes) {
+        Some(at) => at,
+        None => bytes.len(),
+    }
+}
+
+/// How many bytes stand before the first separator.
+#[tactic(auto, using(crate::proofs::Places::no_place, crate::proofs::Places::place_within))]
+fn word_len(separator: Separator, bytes: &[u8]) -> usize
+    ensures place { result ≡ position_or_len (separates separator) bytes.now }
+    ensures within { result ≤ length bytes.now }
+{
+    match first_separator(separator, bytes) {
+        Some(at) => at,
+        None => bytes.len(),
+    }
+}
+
+/// The first word of a line, and what follows it; None where there is no word.
+pub fn split_word<'a>(line: Part<'a>, separator: Separator) -> Option<(Part<'a>, Part<'a>)>
+    requires { Fits line }
+    ensures words { MatchOption result (words_of (separates separator) line.entry ≡ [])
+        (λ p. words_of (separates separator) line.entry ≡ placed p.0 ∷ words_of (separates separator) p.1) }
+    ensures long { IfSome result (λ p. 0 < length p.0.bytes.now) }
+
+    ensures begins { IfSome result (λ p. line.entry.at ≤ p.0.at) }
+    ensures meets { IfSome result (λ p. p.1.at ≡ end_of p.0) }
+    ensures ends { IfSome result (λ p. end_of p.1 ≡ end_of line.entry) }
+    ensures shorter { IfSome result (λ p. length p.0.bytes.now + length p.1.bytes.now ≤ length line.entry.bytes.now) }
+    ensures falls { IfSome result (λ p. length p.1.bytes.now < length line.entry.bytes.now) }
+{
+    let bare = line.after(blank_len(separator, line.bytes));
+    if bare.bytes.is_empty() {
+        return None;
+    }
+    let len = word_len(separator, bare.bytes);
+    Some((bare.front(len), bare.after(len)))
+}
+
+/// How many words stand in a line, parted by spaces or tabs.
+pub(crate) fn word_count(line: Part) -> u32
+    requires { Fits line }
+    ensures count { result ≡ length (words_of is_blank line.entry) }
+    ensures fewer { result ≤ length line.entry.bytes.now }
+{
+    let mut rest = line;
+    let mut count = 0;
+    while let Some((_, after)) = split_word(rest, Separator::Blank) {
+        count += 1;
+        rest = after;
+    }
+    count
+}

@@ -1,0 +1,18 @@
+//! Writes the text of a record to a sink, line by line.
+//!
+//! A contract sees a `RunRecord` as plain lists, and its text is `show` of `record_spec`.
+//! `put_record` writes that text: each line with its line feed is one piece, and what the sink did
+//! not take of it is offered again. A fault ends the writing, and a front of the text was taken.
+//!
+//! Stands on outside for the sink and on label_table for the texts of labels; numbers are printed
+//! by itoa.
+#![tactic(auto)]
+
+mod fault;
+mod lines;
+mod record;
+mod words;
+
+pub use fault::ReportFault;
+pub use record::put_record;
+pub use record_spec::{AskedLine, AskedLines, AskedWhat, RunRecord};

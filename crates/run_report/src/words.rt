@@ -1,0 +1,75 @@
+ghost use Rattle.std.specs.Prelude.{◌≡◌, ◌++◌, OnOk, decimal};
+ghost use Rattle.record_spec.specs.Show.{word, number, label, modes, call_number, version_word, triple};
+
+use itoa::Buffer;
+use label_table::Labels;
+use smack_base::{LabelId, Modes};
+use std::alloc::AllocError;
+
+fn put_decimal(out: &mut Vec<u8>, n: u64) -> Result<(), AllocError>
+    ensures { OnOk result (out.new.items ≡ out.old.items ++ decimal n) }
+{
+    let mut buffer = Buffer::new();
+    out.extend_from_slice(buffer.format(n).as_bytes())
+}
+
+pub fn put_word(out: &mut Vec<u8>, text: &[u8]) -> Result<(), AllocError>
+    ensures { OnOk result (out.new.items ≡ out.old.items ++ word text.now) }
+{
+    out.extend_from_slice(b" ")?;
+    out.extend_from_slice(text)
+}
+
+pub fn put_number(out: &mut Vec<u8>, n: u64) -> Result<(), AllocError>
+    ensures { OnOk result (out.new.items ≡ out.old.items ++ number n) }
+{
+    out.extend_from_slice(b" ")?;
+    put_decimal(out, n)
+}
+
+/// A label; a word of no bytes where the table does not have the id.
+pub fn put_label(out: &mut Vec<u8>, labels: &Labels, id: LabelId) -> Result<(), AllocError>
+    ensures { OnOk result (out.new.items ≡ out.old.items ++ label labels.now id) }
+{
+    if u32::from(id.0) < labels.len() {
+        put_word(out, labels.name(id))
+    } else {
+        put_word(out, b"")
+    }
+}
+
+pub fn put_modes(out: &mut Vec<u8>, m: Modes) -> Result<(), AllocError>
+    ensures { OnOk result (out.new.items ≡ out.old.items ++ modes m) }
+{
+    put_word(out, m.text().bytes())
+}
+
+pub fn put_triple(
+    out: &mut Vec<u8>,
+    labels: &Labels,
+    s: LabelId,
+    o: LabelId,
+    m: Modes,
+) -> Result<(), AllocError>
+    ensures { OnOk result (out.new.items ≡ out.old.items ++ triple labels.now s o m) }
+{
+    put_label(out, labels, s)?;
+    put_label(out, labels, o)?;
+    put_modes(out, m)
+}
+
+pub fn put_call_number(out: &mut Vec<u8>, task: u16, seq: u32) -> Result<(), AllocError>
+    ensures { OnOk result (out.new.items ≡ out.old.items ++ call_number task seq) }
+{
+    out.extend_from_slice(b" ")?;
+    put_decimal(out, u64::from(task))?;
+    out.extend_from_slice(b".")?;
+    put_decimal(out, u64::from(seq))
+}
+
+pub fn put_version(out: &mut Vec<u8>, version: u32) -> Result<(), AllocError>
+    ensures { OnOk result (out.new.items ≡ out.old.items ++ version_word version) }
+{
+    out.extend_from_slice(b" v")?;
+    put_decimal(out, u64::from(version))
+}

@@ -1,0 +1,15 @@
+use Rattle.std.proofs.Common.{◌≡◌, ◌++◌, length}
+use Rattle.std.specs.Prelude.{map, All}
+use Rattle.text_spec.specs.Texts.{is_space}
+use Rattle.rule_text.specs.Parts.{Fits, placed, words_of, end_of}
+use Rattle.script_text.proofs.words.spaced_words.Given as goal
+
+abbrev pub invariant-loop-word : goal.invariant-loop-word
+invariant-loop-word l = record {
+  read : map placed l.words.items ++ words_of is_space l.rest ≡ words_of is_space l.line;
+  fit : All Fits l.words.items;
+  ends : end_of l.rest ≡ end_of l.line;
+}
+
+abbrev pub decreases-loop-word : goal.decreases-loop-word
+decreases-loop-word l = length l.rest.bytes.now

@@ -1,0 +1,162 @@
+ghost use Rattle.std.specs.Prelude.{true, ◌≡◌, ◌<◌, ◌≤◌, ◌^◌, ◌+◌, ◌*◌, ◌∷◌, ◌++◌, [], length, map, drop, IfOk, IfSome, MatchOption, All};
+ghost use Rattle.std.specs.List.{list_all};
+ghost use Rattle.text_spec.specs.Texts.{is_space};
+ghost use Rattle.rule_text.specs.Parts.{Fits, placed, words_of};
+ghost use Rattle.text_spec.specs.Texts.{is_space};
+ghost use Rattle.script_spec.specs.Words.{verb_of as verb_of_name, kinds_of as kinds_of_verb, number_of as number_of_word, is_decimal as is_decimal_word, value_from, is_digit as is_digit_byte, is_of_kind as is_word_of_kind, are_of_kinds as are_words_of_kinds};
+ghost use Rattle.script_spec.specs.Grammar.{are_words as are_words_of_call, text_count as text_count_of_words};
+
+use rule_text::{Part, Separator, split_word};
+use script_spec::{Verb, WordKind};
+use smack_base::{Label, Modes};
+use std::alloc::{AllocError, Global};
+
+/// The verb with this name; None where there is none.
+pub fn verb_of(name: &[u8]) -> Option<Verb>
+    ensures { result ≡ verb_of_name name.now }
+{
+    if name == b"write".as_slice() {
+        Some(Verb::Write)
+    } else if name == b"ask".as_slice() {
+        Some(Verb::Ask)
+    } else {
+        None
+    }
+}
+
+/// The kinds of the words behind a verb.
+fn kinds_of(verb: Verb) -> &'static [WordKind]
+    ensures { result.now ≡ kinds_of_verb verb }
+{
+    match verb {
+        Verb::Write => &[WordKind::File, WordKind::Number],
+        Verb::Ask => &[WordKind::Label, WordKind::Label, WordKind::Modes],
+    }
+}
+
+fn is_digit(b: u8) -> bool
+    ensures { result ≡ is_digit_byte b }
+{
+    b >= b'0' && b <= b'9'
+}
+
+fn are_digits(word: &[u8]) -> bool
+    ensures { result ≡ list_all is_digit_byte word.now }
+{
+    word.iter().all(|b| is_digit(*b))
+}
+
+/// Whether a word is a decimal number, of any size, without a zero in front.
+fn is_decimal(word: &[u8]) -> bool
+    ensures { result ≡ is_decimal_word word.now }
+{
+    match word {
+        [] => false,
+        [b'0', _, ..] => false,
+        _ => are_digits(word),
+    }
+}
+
+/// A number with one more digit, where it is below 2^32.
+fn with_digit(n: u32, digit: u8) -> Option<u32>
+    ensures { MatchOption result (2 ^ 32 ≤ n * 10 + digit) (λ more. more ≡ n * 10 + digit) }
+{
+    let more = u64::from(n) * 10 + u64::from(digit);
+    if more <= u64::from(u32::MAX) {
+        Some(more as u32)
+    } else {
+        None
+    }
+}
+
+/// The value of a decimal number, where it is below 2^32.
+fn value_of(word: &[u8]) -> Option<u32>
+    ensures { MatchOption result (2 ^ 32 ≤ value_from 0 word.now) (λ n. n ≡ value_from 0 word.now) }
+{
+    let mut n = 0u32;
+    for b in word {
+        let Some(more) = with_digit(n, b.saturating_sub(b'0')) else {
+            return None;
+        };
+        n = more;
+    }
+    Some(n)
+}
+
+/// The decimal number below 2^32 that a word is; None where it is none.
+pub fn number_of(word: &[u8]) -> Option<u32>
+    ensures { result ≡ number_of_word word.now }
+{
+    if is_decimal(word) {
+        value_of(word)
+    } else {
+        None
+    }
+}
+
+fn is_of_kind(kind: WordKind, word: &[u8]) -> bool
+    requires { length word.now < 2 ^ 32 }
+    ensures { result ≡ is_word_of_kind kind word.now }
+{
+    match kind {
+        WordKind::Label => Label::read(word).is_ok(),
+        WordKind::Modes => Modes::read(word).is_ok(),
+        WordKind::File => word == b"load2".as_slice(),
+        WordKind::Number => number_of(word).is_some(),
+    }
+}
+
+/// The words of a line, in order.
+pub fn spaced_words<'a>(alloc: Global, line: Part<'a>) -> Result<Vec<Part<'a>>, AllocError>
+    requires { Fits line }
+    ensures words { IfOk result (λ words. map placed words.items ≡ words_of is_space line.entry) }
+    ensures fit { IfOk result (λ words. All Fits words.items) }
+{
+    let mut words = Vec::new(alloc);
+    let mut rest = line;
+    while let Some((word, after)) = split_word(rest, Separator::Space) {
+        words.push(word)?;
+        rest = after;
+    }
+    Ok(words)
+}
+
+/// Whether words are as many as kinds, each of its kind.
+fn are_of_kinds(kinds: &[WordKind], words: &[Part<'_>]) -> bool
+    requires { All Fits words.now }
+    ensures { result ≡ are_words_of_kinds kinds.now (map placed words.now) }
+{
+    if kinds.len() != words.len() {
+        return false;
+    }
+    for (i, kind) in kinds.iter().enumerate() {
+        if !is_of_kind(*kind, words[i].bytes) {
+            return false;
+        }
+    }
+    true
+}
+
+/// Whether these are the words of a call: the first task, a verb, and words of its kinds.
+pub fn are_words(words: &[Part<'_>]) -> bool
+    requires { All Fits words.now }
+    ensures { result ≡ are_words_of_call (map placed words.now) }
+{
+    if words.len() < 2 || words[0].bytes != b"init".as_slice() {
+        return false;
+    }
+    match verb_of(words[1].bytes) {
+        Some(verb) => are_of_kinds(kinds_of(verb), &words[2..]),
+        None => false,
+    }
+}
+
+/// How many of the lines behind these words are their text.
+pub fn text_count(words: &[Part<'_>]) -> u32
+    ensures { result ≡ text_count_of_words (map placed words.now) }
+{
+    if words.len() != 4 || verb_of(words[1].bytes) != Some(Verb::Write) {
+        return 0;
+    }
+    number_of(words[3].bytes).unwrap_or(0)
+}
