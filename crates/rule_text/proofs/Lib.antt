@@ -7,3 +7,5 @@ pub mod WordSlices
 pub mod MovedPlaces
 pub mod Trimmed
 pub mod ChangeLine
+pub mod GoodFields
+pub mod FirstBad

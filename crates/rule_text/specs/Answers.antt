@@ -1,4 +1,6 @@
-use Rattle.std.specs.Prelude.{Some, Result, Ok, Err}
+use Rattle.std.specs.Prelude.{◌≡◌, Some, None, Result, Ok, Err}
+use Rattle.smack_base.specs.Labels.{label_fault}
+use Rattle.smack_base.specs.Modes.{bad_letter}
 use Rattle.std.specs.Option.{option_map}
 use Rattle.text_spec.specs.declared.BadLine.{BadLine}
 use Rattle.text_spec.specs.Texts.{Placed}
@@ -19,3 +21,13 @@ seen (Err b) = Err b
 abbrev pub denying : Placed → RuleWords → Result RuleWords BadLine
 denying deny r =
     unless_fault (deny_fault deny) (record { line = r.line; subject = r.subject; object = r.object; allow = r.allow; deny = Some deny })
+
+-- the fields of a good line have no fault
+pub record HasGoodFields (r : RuleLine) : Type 0 where
+  pub subject : label_fault r.subject.bytes.now ≡ None
+  pub object : label_fault r.object.bytes.now ≡ None
+  pub allow : bad_letter r.allow.bytes.now ≡ None
+
+abbrev pub IsGood : Result RuleLine BadLine → Type 0
+IsGood (Ok r) = HasGoodFields r
+IsGood (Err b) = Unit {0}

@@ -22,6 +22,6 @@ pub use laws::{lines_are_slices, places_move, words_are_slices};
 pub use lines::{split_line, split_lines};
 pub use part::Part;
 pub use rule_line::RuleLine;
-pub use rule_lines::RuleLines;
+pub use rule_lines::{RuleLines, first_bad_line};
 pub use text_spec::{BadLine, LineFault, RuleForm};
 pub use words::{Separator, split_word};

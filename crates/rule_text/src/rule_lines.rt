@@ -1,8 +1,8 @@
-ghost use Rattle.std.specs.Prelude.{◌≡◌, ◌≤◌, ◌+◌, ◌∷◌, [], length, MatchOption, IfSome, Some};
+ghost use Rattle.std.specs.Prelude.{◌≡◌, ◌≤◌, ◌+◌, ◌∷◌, [], length, MatchOption, IfSome, Some, Err, is_ok, true};
 ghost use Rattle.std.specs.Option.{option_map};
-ghost use Rattle.text_spec.specs.RuleTexts.{line_answer, line_answers, rule_answers, before_more};
+ghost use Rattle.text_spec.specs.RuleTexts.{line_answer, line_answers, rule_answers, rules_of_text, before_more};
 ghost use Rattle.rule_text.specs.Parts.{end_of, lines_of, as_line};
-ghost use Rattle.rule_text.specs.Answers.{seen};
+ghost use Rattle.rule_text.specs.Answers.{seen, IsGood};
 
 use crate::lines::split_line;
 use crate::part::Part;
@@ -38,7 +38,8 @@ impl<'a> Model for RuleLines<'a> {
 /// What a line of the text is; None where it is skipped.
 fn read_line<'a>(form: RuleForm, line: u32, text: Part<'a>) -> Option<Result<RuleLine<'a>, BadLine>>
     requires { end_of text ≤ 65536 }
-    ensures { option_map seen result ≡ line_answer form line (as_line text.entry) }
+    ensures answer { option_map seen result ≡ line_answer form line (as_line text.entry) }
+    ensures good { IfSome result IsGood }
 {
     match form {
         RuleForm::Long => read_long(line, text),
@@ -61,6 +62,7 @@ fn first_answer<'a>(form: RuleForm, line: u32, text: Part<'a>) -> Option<Found<'
     requires fits { end_of text ≤ 65536 }
     ensures answers { MatchOption result (line_answers form line (lines_of text.entry) ≡ [])
         (λ f. line_answers form line (lines_of text.entry) ≡ before_more (Some (seen f.answer)) (line_answers form f.line (lines_of f.rest))) }
+    ensures good { IfSome result (λ f. IsGood f.answer) }
     ensures count { IfSome result (λ f. f.line + length f.rest.bytes.now ≤ 65537) }
     ensures fits { IfSome result (λ f. end_of f.rest ≤ 65536) }
 {
@@ -96,7 +98,8 @@ impl<'a> RuleLines<'a> {
     /// The next line that is not skipped, or the first bad one; None where there is none, and
     /// behind a bad one.
     pub fn next(&mut self) -> Option<Result<RuleLine<'a>, BadLine>>
-        ensures { MatchOption result ((self.old ≡ []) × (self.new ≡ [])) (λ r. self.old ≡ seen r ∷ self.new) }
+        ensures answer { MatchOption result ((self.old ≡ []) × (self.new ≡ [])) (λ r. self.old ≡ seen r ∷ self.new) }
+        ensures good { IfSome result IsGood }
     {
         let Some(found) = first_answer(self.form, self.line, self.rest) else {
             return None;
@@ -113,4 +116,18 @@ impl<'a> RuleLines<'a> {
             }
         }
     }
+}
+
+/// The first bad line of a text of this form, at most 65,536 bytes; None where no line is bad.
+pub fn first_bad_line(text: &[u8], form: RuleForm) -> Option<BadLine>
+    requires { length text.now ≤ 65536 }
+    ensures { MatchOption result (is_ok (rules_of_text form text.now) ≡ true) (λ bad. rules_of_text form text.now ≡ Err bad) }
+{
+    let mut lines = RuleLines::of(text, form);
+    while let Some(answer) = lines.next() {
+        if let Err(bad) = answer {
+            return Some(bad);
+        }
+    }
+    None
 }

@@ -1,0 +1,29 @@
+use Rattle.std.proofs.Common.{◌≡◌, List, [], ◌∷◌, refl, Ok, Err, true, sym, ◌∙◌}
+use Rattle.std.specs.Prelude.{Result, is_ok}
+use Rattle.text_spec.specs.declared.BadLine.{BadLine}
+use Rattle.text_spec.specs.RuleTexts.{RuleWords, all_good, with_first}
+
+-- the rules of the lines left end as those of the whole text do: with the same bad line, or with none
+pub record EndsAs (left whole : Result (List RuleWords) BadLine) : Type 0 where
+  pub bad : (b : BadLine) → left ≡ Err b → whole ≡ Err b
+  pub good : is_ok left ≡ true → is_ok whole ≡ true
+
+good_more : (r : RuleWords) (more : Result (List RuleWords) BadLine) → is_ok more ≡ true → is_ok (with_first (Ok r) more) ≡ true
+good_more r (Ok rs) is = refl
+good_more r (Err b) is = is
+
+-- behind a good line
+pub ends_more : (lines more : List (Result RuleWords BadLine)) (r : RuleWords) (whole : Result (List RuleWords) BadLine)
+    → EndsAs (all_good lines) whole → lines ≡ Ok r ∷ more → EndsAs (all_good more) whole
+ends_more lines more r whole ends is = record {
+  bad = λ b left. ends.bad b (rw (is, left) refl);
+  good = λ left. ends.good (rw is (good_more r (all_good more) left));
+}
+
+pub ends_bad : (lines more : List (Result RuleWords BadLine)) (b : BadLine) (whole : Result (List RuleWords) BadLine)
+    → EndsAs (all_good lines) whole → lines ≡ Err b ∷ more → whole ≡ Err b
+ends_bad lines more b whole ends is = ends.bad b (rw is refl)
+
+pub ends_good : (lines : List (Result RuleWords BadLine)) (whole : Result (List RuleWords) BadLine) → EndsAs (all_good lines) whole
+    → lines ≡ [] → is_ok whole ≡ true
+ends_good lines whole ends is = ends.good (rw is refl)
