@@ -54,6 +54,7 @@ pub fn split_lines<'a>(n: u32, text: Part<'a>) -> Option<(Part<'a>, Part<'a>)>
     ensures bytes { IfSome result (λ p. p.0.bytes.now ≡ whole_lines (take n (lines_of text.entry))) }
     ensures front { IfSome result (λ p. lines_of p.0 ≡ take n (lines_of text.entry)) }
     ensures rest { IfSome result (λ p. lines_of p.1 ≡ drop n (lines_of text.entry)) }
+    ensures fewer { IfSome result (λ p. n + length p.1.bytes.now ≤ length text.entry.bytes.now) }
 
     ensures begins { IfSome result (λ p. p.0.at ≡ text.entry.at) }
     ensures meets { IfSome result (λ p. p.1.at ≡ end_of p.0) }

@@ -1,4 +1,4 @@
-use Rattle.std.specs.Prelude.{ℕ, ◌+◌, ◌-◌, Bool, true, false, ◌&&◌, ◌||◌, not, ◌==◌, if◌then◌else◌, List, [], ◌∷◌, Option, Some, None, Result, Ok, Err, is_ok, length, take, codes, zero, suc, nat_lt, nat_le}
+use Rattle.std.specs.Prelude.{ℕ, ◌+◌, ◌-◌, Bool, true, false, ◌&&◌, ◌||◌, not, ◌==◌, if◌then◌else◌, List, [], ◌∷◌, Option, Some, None, Result, Ok, Err, is_ok, length, take, codes, slice_index_or, nat_lt, nat_le}
 use Rattle.std.specs.List.{flat_map}
 use Rattle.std.specs.Str.{bytes_eq}
 use Rattle.text_spec.specs.declared.BadLine.{BadLine}
@@ -96,9 +96,7 @@ absent = record { at = 0; bytes = [] }
 
 -- the word behind so many others
 abbrev pub word_at : ℕ → List Placed → Placed
-word_at k [] = absent
-word_at zero (w ∷ ws) = w
-word_at (suc k) (w ∷ ws) = word_at k ws
+word_at k words = slice_index_or words k absent
 
 -- the call of an item
 abbrev pub call_of : ℕ → Item → ScriptLine

@@ -1,0 +1,67 @@
+ghost use Rattle.std.specs.Prelude.{◌≡◌, length, map, IfOk};
+ghost use Rattle.script_spec.specs.Grammar.{parse, table_of};
+ghost use Rattle.script_text.specs.Lines.{call_seen};
+ghost use Rattle.script_text.specs.Scripts.{Reads};
+
+use crate::line::Line;
+use crate::reading::{Draft, read_calls};
+use label_table::Labels;
+use rule_text::Part;
+use script_spec::{ScriptFault, What};
+use smack_base::Duplicate;
+use std::alloc::{AllocError, Global};
+use std::marker::Model;
+
+/// The most bytes of a script.
+pub const MOST_BYTES: u32 = 65_536;
+
+/// A script: calls in written order, as slices of the input. A contract sees their list.
+#[derive(Drop)]
+pub struct Script<'a> {
+    lines: Vec<Line<'a>>,
+    labels: Labels,
+}
+
+impl<'a> Model for Script<'a> {
+    ghost use Rattle.std.specs.Prelude.{◌≡◌, List, map};
+    ghost use Rattle.script_spec.specs.Grammar.{ScriptLine, table_of};
+    ghost use Rattle.script_text.specs.Lines.{call_seen};
+
+    ghost Value = { List ScriptLine };
+
+    ghost view = { λ s. map call_seen s.lines.items };
+
+    ghost invariant = { λ s. s.labels ≡ table_of (map call_seen s.lines.items) };
+}
+
+impl<'a> Script<'a> {
+    /// The script that these bytes are; or `Malformed` with the first line that is not in the
+    /// grammar, or `TooLarge` with the limit that is exceeded first. `TooLarge{Bytes}` comes before
+    /// all else.
+    pub fn read(alloc: Global, bytes: &'a [u8]) -> Result<Script<'a>, ScriptFault>
+        ensures { Reads result (parse bytes.now) }
+    {
+        if bytes.len() > MOST_BYTES as usize {
+            return Err(ScriptFault::TooLarge { what: What::Bytes });
+        }
+        match read_calls(alloc, Part { bytes, at: 0 }) {
+            Ok(Draft { lines, labels }) => Ok(Script { lines, labels }),
+            Err(fault) => Err(fault),
+        }
+    }
+
+    /// The calls, in written order.
+    pub fn lines(&self) -> &[Line<'a>]
+        ensures { map call_seen result.now ≡ self.now }
+    {
+        self.lines.as_slice()
+    }
+
+    /// The label table of the script: the predefined labels, and then its own in the order in
+    /// which they stand, each once.
+    pub fn labels(&self) -> Result<Labels, AllocError>
+        ensures { IfOk result (λ labels. labels ≡ table_of self.now) }
+    {
+        self.labels.copy()
+    }
+}
