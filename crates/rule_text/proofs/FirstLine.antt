@@ -1,24 +1,9 @@
-use Rattle.std.proofs.Common.{◌≡◌, ◌≤◌, ◌<◌, ◌+◌, ℕ, true, false, suc, List, [], ◌∷◌, arith, length, take, drop, refl, ◌∙◌, sym, inl, inr, nat_lt, nat_eq, Bool}
-use Rattle.std.proofs.lemmas.Bool.{cases_Bool, lt-ltb, le-ltb, eqb-true}
+use Rattle.std.proofs.Common.{◌≡◌, ◌≤◌, ◌<◌, ◌+◌, ℕ, true, false, suc, List, [], ◌∷◌, arith, length, take, drop, refl, inl, inr, nat_lt}
+use Rattle.std.proofs.lemmas.Bool.{cases_Bool, lt-ltb, le-ltb}
 use Rattle.std.proofs.lemmas.List.{length-take-le, drop_all}
 use Rattle.std.specs.List.{position_or_len}
 use Rattle.text_spec.specs.Texts.{lines_from, is_feed}
-
-pub one_more : (n : ℕ) → 1 + n ≡ suc n
-one_more n = omega arith
-
--- where the first element fails, the place is one further on
-pub place_more : (p : ℕ → Bool) (b : ℕ) (bs : List ℕ) → p b ≡ false → position_or_len p (b ∷ bs) ≡ suc (position_or_len p bs)
-place_more p b bs e = simp (e, one_more) refl
-
--- a test that a list is empty, when it fails
-pub not_empty : (bs : List ℕ) (test : Bool) → test ≡ nat_eq (length bs) 0 → test ≡ false → length bs ≡ 0 → ⊥
-not_empty [] test is fails none = cc (sym is ∙ fails)
-not_empty (b ∷ bs) test is fails none = absurd (omega arith)
-
--- a test that a list is empty, when it passes
-pub is_empty_from : (bs : List ℕ) (test : Bool) → test ≡ nat_eq (length bs) 0 → test ≡ true → length bs ≡ 0
-is_empty_from bs test is passes = eqb-true (length bs) 0 (sym is ∙ passes)
+use Rattle.rule_text.proofs.Places.{one_more}
 
 -- a line gains the byte in front of it
 line_more : (at b next n m : ℕ) (bs : List ℕ) → is_feed b ≡ false

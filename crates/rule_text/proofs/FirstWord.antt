@@ -3,7 +3,7 @@ use Rattle.std.proofs.lemmas.Bool.{cases_Bool}
 use Rattle.std.proofs.lemmas.List.{nil_from_length, length-drop}
 use Rattle.std.specs.List.{position_or_len}
 use Rattle.text_spec.specs.Texts.{words_from, begins_word}
-use Rattle.rule_text.proofs.FirstLine.{one_more, place_more}
+use Rattle.rule_text.proofs.Places.{one_more, place_more}
 
 -- blanks in front are passed over
 pub words_after_blanks : (blank : ℕ → Bool) (at : ℕ) (bs : List ℕ) (n next : ℕ) → n ≡ position_or_len (λ b. not (blank b)) bs → next ≡ at + n
@@ -54,6 +54,7 @@ abbrev BeginsBare : (ℕ → Bool) → List ℕ → Type 0
 BeginsBare blank [] = Unit {0}
 BeginsBare blank (b ∷ bs) = blank b ≡ false
 
+-- behind the blanks in front, none stands in front
 bare_after : (blank : ℕ → Bool) (bs : List ℕ) (n : ℕ) → n ≡ position_or_len (λ b. not (blank b)) bs → BeginsBare blank (drop n bs)
 bare_after blank [] n place = rw place tt
 bare_after blank (b ∷ bs) n place =
@@ -66,6 +67,7 @@ bare_after blank (b ∷ bs) n place =
           rw none e
     ]
 
+-- the first word of a text that begins with it
 word_of_bare : (blank : ℕ → Bool) (at : ℕ) (bs : List ℕ) (n next : ℕ) → BeginsBare blank bs → (length bs ≡ 0 → ⊥) → n ≡ position_or_len blank bs → next ≡ at + n
     → words_from blank at bs ≡ (record { at = at; bytes = take n bs }) ∷ words_from blank next (drop n bs)
 word_of_bare blank at [] n next bare some place there = absurd (some refl)
@@ -88,6 +90,7 @@ no_word blank at n line place bare is none =
     let nothing : drop n line ≡ [] = sym is ∙ nil_from_length bare none in
     words_after_blanks blank at line n (at + n) place refl ∙ rw nothing refl
 
+-- a word that begins a text has a byte
 some_of_bare : (blank : ℕ → Bool) (bs : List ℕ) (n : ℕ) → BeginsBare blank bs → (length bs ≡ 0 → ⊥) → n ≡ position_or_len blank bs → 0 < n
 some_of_bare blank [] n bare some place = absurd (some refl)
 some_of_bare blank (b ∷ bs) n bare some place = omega (arith, place ∙ place_more blank b bs bare)

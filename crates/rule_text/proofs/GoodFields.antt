@@ -4,8 +4,7 @@ use Rattle.std.specs.Option.{option_map}
 use Rattle.std.proofs.lemmas.Bool.{cases_Bool, le-ltb}
 use Rattle.std.specs.List.{position_or_len}
 use Rattle.smack_base.specs.Modes.{is_letter}
-use Rattle.rule_text.proofs.Places.{no_place}
-use Rattle.rule_text.proofs.FirstLine.{one_more}
+use Rattle.rule_text.proofs.Places.{no_place, one_more}
 use Rattle.smack_base.specs.Labels.{label_fault}
 use Rattle.smack_base.specs.Modes.{bad_letter}
 use Rattle.smack_base.specs.declared.label.LabelFault.{LabelFault}
@@ -17,7 +16,7 @@ use Rattle.text_spec.specs.declared.RuleForm.TheVariants.{Long, Short, Change}
 use Rattle.text_spec.specs.Texts.{Placed, TextLine}
 use Rattle.text_spec.specs.RuleTexts.{RuleWords, unless_fault, first_fault, unless_bare, line_answer, long_line, change_line, short_line, short_fields, short_label_fault, short_bad_letter, blank_words, field, deny_fault}
 use Rattle.rule_text.specs.declared.rule_line.RuleLine.{RuleLine}
-use Rattle.rule_text.specs.Answers.{seen, IsGood, HasGoodFields}
+use Rattle.rule_text.specs.RuleAnswers.{seen, IsGood, HasGoodFields}
 
 -- the fields of a line, as runs of bytes, have no fault
 record AreGood (r : RuleWords) : Type 0 where
@@ -66,9 +65,9 @@ earlier p q more (b ∷ bs) =
     elim (cases_Bool (p b)) [
       | inl e ↦ simp (e, more b e) (omega arith)
       | inr e ↦ elim (cases_Bool (q b)) [
-          | inl d ↦ simp (e, d) (omega arith)
-          | inr d ↦ simp (e, d, one_more) (omega (arith, earlier p q more bs))
-        ]
+        | inl d ↦ simp (e, d) (omega arith)
+        | inr d ↦ simp (e, d, one_more) (omega (arith, earlier p q more bs))
+      ]
     ]
 
 none_earlier : (p q : ℕ → Bool) → ((b : ℕ) → p b ≡ true → q b ≡ true) → (bs : List ℕ) → position q bs ≡ None → position p bs ≡ None

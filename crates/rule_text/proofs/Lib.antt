@@ -1,4 +1,5 @@
 pub mod Places
+pub mod EmptyTests
 pub mod FirstLine
 pub mod FirstWord
 pub mod WholeLines
@@ -9,3 +10,5 @@ pub mod Trimmed
 pub mod ChangeLine
 pub mod GoodFields
 pub mod FirstBad
+pub mod RuleSlices
+pub mod LabelSlices

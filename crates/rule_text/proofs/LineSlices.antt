@@ -7,6 +7,7 @@ use Rattle.text_spec.specs.Texts.{lines_from, in_first_line, whole_line, whole_l
 use Rattle.rule_text.specs.Slices.{LiesIn, line_part, Adjoin}
 use Rattle.rule_text.proofs.WholeLines.{whole_of_lines}
 
+-- behind the front of a text stands its back
 drop_past : (front rest : List ℕ) (k n : ℕ) → n ≡ length front + k → drop n (front ++ rest) ≡ drop k rest
 drop_past front rest k n e = rw e (sym (drop-drop k (length front) (front ++ rest)) ∙ ap (drop k) (drop_at front rest (length front) refl))
 
@@ -26,6 +27,7 @@ lies_first front rest at at' same = record {
   bytes = ap (λ n. take (length front) (drop n (front ++ rest))) (let none : at' - at ≡ 0 = omega arith in none) ∙ take_at front rest (length front) refl;
 }
 
+-- lines still adjoin with the byte in front of the first
 adjoin_more : (at b : ℕ) (ls : List TextLine) → Adjoin (at + 1) ls → Adjoin at (in_first_line at b ls)
 adjoin_more at b [] h = (refl, tt)
 adjoin_more at b (l ∷ ls) h =
@@ -45,6 +47,7 @@ lines_adjoin at (b ∷ bs) =
       | inr e ↦ simp e (adjoin_more at b (lines_from (at + 1) bs) (lines_adjoin (at + 1) bs))
     ]
 
+-- a line lies at the front of its text
 line_first_lies : (at : ℕ) (l : TextLine) (rest : List ℕ) → l.at ≡ at → LiesIn at (whole_line l ++ rest) (line_part l)
 line_first_lies at l rest same =
     elim (cases_Bool l.ended) [
@@ -52,6 +55,7 @@ line_first_lies at l rest same =
       | inr e ↦ simp e (lies_first l.bytes rest at l.at same)
     ]
 
+-- lines that adjoin lie in the text that they make
 lines_lie : (at : ℕ) (ls : List TextLine) → Adjoin at ls → All (λ l. LiesIn at (whole_lines ls) (line_part l)) ls
 lines_lie at [] h = All-nil (λ l. LiesIn at [] (line_part l))
 lines_lie at (l ∷ ls) h =

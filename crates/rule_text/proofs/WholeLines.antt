@@ -22,14 +22,17 @@ whole_of_lines at (b ∷ bs) =
       | inr e ↦ simp e (whole_more at b (lines_from (at + 1) bs) ∙ ap (λ (t : List ℕ). b ∷ t) (whole_of_lines (at + 1) bs))
     ]
 
+-- the bytes of lines one after the other
 whole_append : (ls ms : List TextLine) → whole_lines (ls ++ ms) ≡ whole_lines ls ++ whole_lines ms
 whole_append [] ms = refl
 whole_append (l ∷ ls) ms = ap (λ (t : List ℕ). whole_line l ++ t) (whole_append ls ms) ∙ sym (append_assoc (whole_line l) (whole_lines ls) (whole_lines ms))
 
+-- the byte in front stays in front of the first lines
 take_in_first : (at b n : ℕ) (ls : List TextLine) → take (suc n) (in_first_line at b ls) ≡ in_first_line at b (take (suc n) ls)
 take_in_first at b n [] = ap (λ (t : List TextLine). (record { at = at; bytes = b ∷ []; ended = false }) ∷ t) (take-nil n)
 take_in_first at b n (l ∷ ls) = refl
 
+-- a byte that is no line feed goes in front of the first line
 lines_more : (at b : ℕ) (bs : List ℕ) → is_feed b ≡ false → lines_from at (b ∷ bs) ≡ in_first_line at b (lines_from (at + 1) bs)
 lines_more at b bs e = simp e refl
 

@@ -12,10 +12,12 @@ abbrev BeginsAt : ℕ → List Placed → Type 0
 BeginsAt at [] = ⊥
 BeginsAt at (w ∷ ws) = w.at ≡ at
 
+-- with a byte in front of it, the first word begins at that byte
 in_first_begins : (at b : ℕ) (ws : List Placed) → BeginsAt at (in_first_word at b ws)
 in_first_begins at b [] = refl
 in_first_begins at b (w ∷ ws) = refl
 
+-- a text that begins with a word begins with its first word
 begins_at : (blank : ℕ → Bool) (at : ℕ) (bs : List ℕ) → begins_word blank bs ≡ true → BeginsAt at (words_from blank at bs)
 begins_at blank at [] begins = cc
 begins_at blank at (b ∷ bs) begins =
@@ -29,6 +31,7 @@ begins_at blank at (b ∷ bs) begins =
 one_behind : (b at : ℕ) (bs : List ℕ) (ws : List Placed) → All (LiesIn (at + 1) bs) ws → All (LiesIn at (b ∷ bs)) ws
 one_behind b at bs ws = All-weaker (LiesIn (at + 1) bs) (LiesIn at (b ∷ bs)) (lies_behind (b ∷ []) bs at (at + 1) refl) ws
 
+-- the first word still lies in the text with the byte in front of it
 first_more : (b at : ℕ) (bs : List ℕ) (w : Placed) → w.at ≡ at + 1 → LiesIn (at + 1) bs w → LiesIn at (b ∷ bs) (record { at = at; bytes = b ∷ w.bytes })
 first_more b at bs w begins lies =
     let none : at - at ≡ 0 = omega arith in
@@ -40,6 +43,7 @@ first_more b at bs w begins lies =
       bytes = rw none (ap (λ (t : List ℕ). b ∷ t) rest);
     }
 
+-- and so do all words
 words_more : (b at : ℕ) (bs : List ℕ) (ws : List Placed) → BeginsAt (at + 1) ws → All (LiesIn (at + 1) bs) ws → All (LiesIn at (b ∷ bs)) (in_first_word at b ws)
 words_more b at bs [] begins lie = absurd begins
 words_more b at bs (w ∷ ws) begins lie =
@@ -63,10 +67,12 @@ words_are blank at (b ∷ bs) =
           ]
     ]
 
+-- words that are apart from a place on are so from an earlier place on
 apart_sooner : (at next : ℕ) (ws : List Placed) → at ≤ next → AreApart next ws → AreApart at ws
 apart_sooner at next [] h apart = tt
 apart_sooner at next (w ∷ ws) h apart = (omega (arith, apart.0), apart.1)
 
+-- words are still apart with the byte in front of the first
 apart_more : (at b : ℕ) (ws : List Placed) → BeginsAt (at + 1) ws → AreApart (at + 1) ws → AreApart at (in_first_word at b ws)
 apart_more at b [] begins apart = absurd begins
 apart_more at b (w ∷ ws) begins apart =
@@ -87,7 +93,8 @@ words_apart blank at (b ∷ bs) =
           ]
     ]
 
-slice_of_slice : (text part word : List ℕ) (j k n : ℕ) → n ≡ j + k → take (length part) (drop j text) ≡ part
+-- a slice of a slice of a list is a slice of the list
+pub slice_of_slice : (text part word : List ℕ) (j k n : ℕ) → n ≡ j + k → take (length part) (drop j text) ≡ part
     → take (length word) (drop k part) ≡ word → k + length word ≤ length part → take (length word) (drop n text) ≡ word
 slice_of_slice text part word j k n there outer inner within =
     let size : length part ≡ k + (length part - k) = omega arith in
@@ -97,8 +104,8 @@ slice_of_slice text part word j k n there outer inner within =
     ∙ sym (take-take (length word) (length part - k) (drop k (drop j text)) (omega arith))
     ∙ ap (take (length word)) (sym part_from) ∙ inner
 
--- a slice of a slice is a slice
-lies_through : (at : ℕ) (text : List ℕ) (p : Placed) → LiesIn at text p → (w : Placed) → LiesIn p.at p.bytes w → LiesIn at text w
+-- what lies in a part lies in the text of the part
+pub lies_through : (at : ℕ) (text : List ℕ) (p : Placed) → LiesIn at text p → (w : Placed) → LiesIn p.at p.bytes w → LiesIn at text w
 lies_through at text p outer w inner =
     record {
       from = omega (arith, outer.from, inner.from);

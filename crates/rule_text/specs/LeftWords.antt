@@ -7,7 +7,9 @@ use Rattle.rule_text.specs.Parts.{placed, end_of, lines_of, words_of}
 
 -- the words that are left: of the rest of the line of this number, and of the lines behind it
 abbrev pub left_words : TextWords → List LineWord
-left_words w = map (λ p. record { line = w.line; word = p }) (words_of is_blank w.rest) ++ line_words (w.line + 1) (lines_of w.after)
+left_words w =
+    map (λ p. record { line = w.line; word = p }) (words_of is_blank w.rest)
+    ++ line_words (w.line + 1) (lines_of w.after)
 
 -- a word and the number of its line
 abbrev pub line_word : NextWord → LineWord
@@ -17,7 +19,7 @@ line_word n = record { line = n.line; word = placed n.word }
 abbrev pub left_bytes : TextWords → ℕ
 left_bytes w = length w.rest.bytes.now + length w.after.bytes.now
 
--- the text has at most 65,536 bytes
+-- its lines, its places and its bytes are at most 65,536
 pub record IsShort (w : TextWords) : Type 0 where
   pub lines : w.line + length w.after.bytes.now ≤ 65536
   pub rest : end_of w.rest ≤ 65536

@@ -1,6 +1,6 @@
 pub mod Parts
 pub mod Separators
 pub mod Slices
-pub mod Answers
+pub mod RuleAnswers
 pub mod LeftWords
 pub mod LabelAnswers

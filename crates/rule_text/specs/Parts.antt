@@ -20,7 +20,11 @@ lines_of p = lines_from p.at p.bytes.now
 
 -- a part of a text as its first line: a line feed ends it, unless it is the whole text
 abbrev pub first_line : Part → Part → TextLine
-first_line text line = record { at = line.at; bytes = line.bytes.now; ended = nat_lt (length line.bytes.now) (length text.bytes.now) }
+first_line text line = record {
+  at = line.at;
+  bytes = line.bytes.now;
+  ended = nat_lt (length line.bytes.now) (length text.bytes.now);
+}
 
 -- the words of a part
 abbrev pub words_of : (ℕ → Bool) → Part → List Placed

@@ -6,8 +6,8 @@ ghost use Rattle.rule_text.specs.LabelAnswers.{seen_word, is_sole_dash};
 use crate::part::Part;
 use crate::rule_line::fault_of_label;
 use crate::text_words::{NextWord, TextWords};
-use text_spec::{BadLine, LineFault};
 use std::marker::Model;
+use text_spec::{BadLine, LineFault};
 
 /// The labels of a text, over all its lines, up to the first word that is none. A contract sees
 /// the answers that are still to come.
@@ -81,7 +81,8 @@ impl<'a> LabelWords<'a> {
     /// The next label, or the first word that is none; None where there is none, and behind a bad
     /// one.
     pub fn next(&mut self) -> Option<Result<Part<'a>, BadLine>>
-        ensures { MatchOption result ((self.old ≡ []) × (self.new ≡ [])) (λ r. self.old ≡ seen_word r ∷ self.new) }
+        ensures { MatchOption result ((self.old ≡ []) × (self.new ≡ []))
+            (λ r. self.old ≡ seen_word r ∷ self.new) }
     {
         let Some(next) = self.left.next() else {
             return None;

@@ -1,9 +1,14 @@
-//! Lines and words of a text, read in place: no byte is copied, and no memory is taken.
+//! Texts read in place: lines, words, lines of rules, lists of labels. No memory is taken; what is
+//! read is a `Part`, a slice of the text with the place of its first byte.
 //!
-//! A contract sees a `Part` as a run of bytes and the place of its first byte in the text.
-//! `split_line`, `split_lines` and `split_word` are exact to the lines and words of `text_spec`.
+//! A contract sees a `Part` as a run of bytes at its place. `split_line`, `split_lines` and
+//! `split_word` are exact to the lines and words of a text, and a reader, `RuleLines` or
+//! `LabelWords`, is the list of answers that it will still give: each good line or label in order,
+//! and the first fault last. `one_word` reads a text of one word.
 //!
-//! The crate stands on `smack_base` and `text_spec`.
+//! The laws say that each part is the slice of the text at its place, and lies in its own line.
+//!
+//! The crate stands on `smack_base`, and on `text_spec`, where its definitions are.
 #![tactic(auto)]
 
 mod label_words;
@@ -13,12 +18,16 @@ mod part;
 mod rule_line;
 mod rule_lines;
 mod short_line;
+#[cfg(test)]
+mod tests;
 mod text_words;
 mod worded_line;
 mod words;
 
 pub use label_words::{LabelWords, one_word};
-pub use laws::{lines_are_slices, places_move, words_are_slices};
+pub use laws::{
+    labels_are_slices, lines_are_slices, places_move, rule_fields_are_slices, words_are_slices,
+};
 pub use lines::{split_line, split_lines};
 pub use part::Part;
 pub use rule_line::RuleLine;

@@ -26,11 +26,13 @@ fn line_len(bytes: &[u8]) -> usize
 /// line.
 pub fn split_line<'a>(text: Part<'a>) -> Option<(Part<'a>, Part<'a>)>
     requires { Fits text }
-    ensures lines { MatchOption result (lines_of text.entry ≡ []) (λ p. lines_of text.entry ≡ first_line text.entry p.0 ∷ lines_of p.1) }
+    ensures lines { MatchOption result (lines_of text.entry ≡ [])
+        (λ p. lines_of text.entry ≡ first_line text.entry p.0 ∷ lines_of p.1) }
 
     ensures begins { IfSome result (λ p. p.0.at ≡ text.entry.at) }
     ensures ends { IfSome result (λ p. end_of p.1 ≡ end_of text.entry) }
-    ensures shorter { IfSome result (λ p. length p.0.bytes.now + length p.1.bytes.now ≤ length text.entry.bytes.now) }
+    ensures shorter { IfSome result
+        (λ p. length p.0.bytes.now + length p.1.bytes.now ≤ length text.entry.bytes.now) }
     ensures falls { IfSome result (λ p. length p.1.bytes.now < length text.entry.bytes.now) }
 {
     if text.bytes.is_empty() {
@@ -48,10 +50,12 @@ pub fn split_line<'a>(text: Part<'a>) -> Option<(Part<'a>, Part<'a>)>
 /// fewer.
 pub fn split_lines<'a>(n: u32, text: Part<'a>) -> Option<(Part<'a>, Part<'a>)>
     requires { Fits text }
-    ensures count { MatchOption result (length (lines_of text.entry) < n) (λ _. n ≤ length (lines_of text.entry)) }
+    ensures count { MatchOption result (length (lines_of text.entry) < n)
+        (λ _. n ≤ length (lines_of text.entry)) }
 
     // The lines are their bytes, and these alone have the same lines at the same places.
-    ensures bytes { IfSome result (λ p. p.0.bytes.now ≡ whole_lines (take n (lines_of text.entry))) }
+    ensures bytes { IfSome result
+        (λ p. p.0.bytes.now ≡ whole_lines (take n (lines_of text.entry))) }
     ensures front { IfSome result (λ p. lines_of p.0 ≡ take n (lines_of text.entry)) }
     ensures rest { IfSome result (λ p. lines_of p.1 ≡ drop n (lines_of text.entry)) }
     ensures fewer { IfSome result (λ p. n + length p.1.bytes.now ≤ length text.entry.bytes.now) }

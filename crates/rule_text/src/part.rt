@@ -1,4 +1,4 @@
-/// A slice of a text, and the place of its first byte in the text, from 0.
+/// A slice of a text, and the place of its first byte in the text, in bytes from 0.
 #[derive(Clone, Copy, Debug)]
 pub struct Part<'a> {
     pub bytes: &'a [u8],

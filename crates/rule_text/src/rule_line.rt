@@ -4,8 +4,8 @@ ghost use Rattle.text_spec.specs.RuleTexts.{subject_fault, object_fault, allow_f
 ghost use Rattle.rule_text.specs.Parts.{Fits, placed};
 
 use crate::part::Part;
-use text_spec::LineFault;
 use smack_base::{Label, LabelFault, Modes};
+use text_spec::LineFault;
 
 /// A good line of rules: its number in the text, from 1, and its fields, each at its place in the
 /// text.
@@ -19,6 +19,7 @@ pub struct RuleLine<'a> {
     pub deny: Option<Part<'a>>,
 }
 
+/// The first fault of a text as a label.
 pub(crate) fn fault_of_label(text: &[u8]) -> Option<LabelFault>
     ensures { result ≡ label_fault text.now }
 {

@@ -2,15 +2,15 @@ ghost use Rattle.std.specs.Prelude.{◌≡◌, ◌≤◌, ◌+◌, ◌∷◌, []
 ghost use Rattle.std.specs.Option.{option_map};
 ghost use Rattle.text_spec.specs.RuleTexts.{line_answer, line_answers, rule_answers, rules_of_text, before_more};
 ghost use Rattle.rule_text.specs.Parts.{end_of, lines_of, as_line};
-ghost use Rattle.rule_text.specs.Answers.{seen, IsGood};
+ghost use Rattle.rule_text.specs.RuleAnswers.{seen, IsGood};
 
 use crate::lines::split_line;
 use crate::part::Part;
 use crate::rule_line::RuleLine;
 use crate::short_line::read_short;
 use crate::worded_line::{read_change, read_long};
-use text_spec::{BadLine, RuleForm};
 use std::marker::Model;
+use text_spec::{BadLine, RuleForm};
 
 /// The lines of a text of rules, in order, up to the first bad one. A contract sees the answers
 /// that are still to come.
@@ -35,7 +35,7 @@ impl<'a> Model for RuleLines<'a> {
     ghost invariant = { λ s. (s.line + length s.rest.bytes.now ≤ 65537) × (end_of s.rest ≤ 65536) };
 }
 
-/// What a line of the text is; None where it is skipped.
+/// What a line of this form is; None where it is skipped.
 fn read_line<'a>(form: RuleForm, line: u32, text: Part<'a>) -> Option<Result<RuleLine<'a>, BadLine>>
     requires { end_of text ≤ 65536 }
     ensures answer { option_map seen result ≡ line_answer form line (as_line text.entry) }
@@ -60,8 +60,10 @@ struct Found<'a> {
 fn first_answer<'a>(form: RuleForm, line: u32, text: Part<'a>) -> Option<Found<'a>>
     requires count { line + length text.bytes.now ≤ 65537 }
     requires fits { end_of text ≤ 65536 }
-    ensures answers { MatchOption result (line_answers form line (lines_of text.entry) ≡ [])
-        (λ f. line_answers form line (lines_of text.entry) ≡ before_more (Some (seen f.answer)) (line_answers form f.line (lines_of f.rest))) }
+    ensures answers { let all = line_answers form line (lines_of text.entry) in
+        MatchOption result (all ≡ [])
+        (λ f. all ≡ before_more (Some (seen f.answer))
+        (line_answers form f.line (lines_of f.rest))) }
     ensures good { IfSome result (λ f. IsGood f.answer) }
     ensures count { IfSome result (λ f. f.line + length f.rest.bytes.now ≤ 65537) }
     ensures fits { IfSome result (λ f. end_of f.rest ≤ 65536) }
@@ -98,7 +100,8 @@ impl<'a> RuleLines<'a> {
     /// The next line that is not skipped, or the first bad one; None where there is none, and
     /// behind a bad one.
     pub fn next(&mut self) -> Option<Result<RuleLine<'a>, BadLine>>
-        ensures answer { MatchOption result ((self.old ≡ []) × (self.new ≡ [])) (λ r. self.old ≡ seen r ∷ self.new) }
+        ensures answer { MatchOption result ((self.old ≡ []) × (self.new ≡ []))
+            (λ r. self.old ≡ seen r ∷ self.new) }
         ensures good { IfSome result IsGood }
     {
         let Some(found) = first_answer(self.form, self.line, self.rest) else {

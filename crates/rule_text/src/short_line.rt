@@ -5,13 +5,13 @@ ghost use Rattle.text_spec.specs.Texts.{is_space};
 ghost use Rattle.text_spec.specs.declared.RuleForm.TheVariants.{Short};
 ghost use Rattle.text_spec.specs.RuleTexts.{front_spaces, trimmed, field, short_label_fault, short_bad_letter, short_fields, line_answer};
 ghost use Rattle.rule_text.specs.Parts.{Fits, end_of, placed, as_line};
-ghost use Rattle.rule_text.specs.Answers.{seen};
+ghost use Rattle.rule_text.specs.RuleAnswers.{seen};
 
 use crate::part::Part;
 use crate::rule_line::{RuleLine, fault_of_label};
 use crate::words::{Separator, blank_len};
-use text_spec::{BadLine, LineFault};
 use smack_base::{LabelFault, Modes};
+use text_spec::{BadLine, LineFault};
 
 fn last_bare(bytes: &[u8]) -> Option<usize>
     ensures { result ≡ position (λ b. not (is_space b)) (reverse bytes.now) }
@@ -80,7 +80,8 @@ fn judge_short<'a>(
     allow: Part<'a>,
 ) -> Result<RuleLine<'a>, BadLine>
     requires { Fits allow }
-    ensures { seen result ≡ short_fields line (placed subject.entry) (placed object.entry) (placed allow.entry) }
+    ensures { seen result ≡
+        short_fields line (placed subject.entry) (placed object.entry) (placed allow.entry) }
 {
     if let Some(fault) = fault_of_short_label(subject.bytes) {
         return Err(BadLine {

@@ -55,7 +55,8 @@ impl<'a> TextWords<'a> {
     /// The first word that is left.
     pub(crate) fn next(self) -> Option<NextWord<'a>>
         requires { IsShort self }
-        ensures words { MatchOption result (left_words self.entry ≡ []) (λ n. left_words self.entry ≡ line_word n ∷ left_words n.left) }
+        ensures words { MatchOption result (left_words self.entry ≡ [])
+            (λ n. left_words self.entry ≡ line_word n ∷ left_words n.left) }
         ensures short { IfSome result (λ n. IsShort n.left) }
         ensures falls { IfSome result (λ n. left_bytes n.left < left_bytes self.entry) }
     {

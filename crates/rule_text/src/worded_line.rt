@@ -3,7 +3,7 @@ ghost use Rattle.std.specs.Option.{option_map};
 ghost use Rattle.text_spec.specs.declared.RuleForm.TheVariants.{Long, Change};
 ghost use Rattle.text_spec.specs.RuleTexts.{line_answer, long_line, change_line};
 ghost use Rattle.rule_text.specs.Parts.{Fits, placed, as_line};
-ghost use Rattle.rule_text.specs.Answers.{seen, fields_of, denying};
+ghost use Rattle.rule_text.specs.RuleAnswers.{seen, fields_of, denying};
 
 use crate::part::Part;
 use crate::rule_line::{
@@ -28,7 +28,8 @@ fn judge_long<'a>(
     allow: Part<'a>,
 ) -> Result<RuleLine<'a>, BadLine>
     requires { Fits allow }
-    ensures { seen result ≡ long_line line (placed subject.entry ∷ placed object.entry ∷ placed allow.entry ∷ []) }
+    ensures { seen result ≡ long_line line
+        (placed subject.entry ∷ placed object.entry ∷ placed allow.entry ∷ []) }
 {
     if let Some(fault) = fault_of_subject(subject) {
         return Err(BadLine { line, fault });
@@ -93,7 +94,8 @@ fn judge_change<'a>(
 ) -> Result<RuleLine<'a>, BadLine>
     requires allow_fits { Fits allow }
     requires deny_fits { Fits deny }
-    ensures { seen result ≡ change_line line (placed subject.entry ∷ placed object.entry ∷ placed allow.entry ∷ placed deny.entry ∷ []) }
+    ensures { seen result ≡ change_line line
+        (placed subject.entry ∷ placed object.entry ∷ placed allow.entry ∷ placed deny.entry ∷ []) }
 {
     match judge_long(line, subject, object, allow) {
         Err(bad) => Err(bad),

@@ -63,14 +63,16 @@ fn word_len(separator: Separator, bytes: &[u8]) -> usize
 /// The first word of a line, and what follows it; None where there is no word.
 pub fn split_word<'a>(line: Part<'a>, separator: Separator) -> Option<(Part<'a>, Part<'a>)>
     requires { Fits line }
-    ensures words { MatchOption result (words_of (separates separator) line.entry ≡ [])
-        (λ p. words_of (separates separator) line.entry ≡ placed p.0 ∷ words_of (separates separator) p.1) }
+    ensures words { let blank = separates separator in
+        MatchOption result (words_of blank line.entry ≡ [])
+        (λ p. words_of blank line.entry ≡ placed p.0 ∷ words_of blank p.1) }
     ensures long { IfSome result (λ p. 0 < length p.0.bytes.now) }
 
     ensures begins { IfSome result (λ p. line.entry.at ≤ p.0.at) }
     ensures meets { IfSome result (λ p. p.1.at ≡ end_of p.0) }
     ensures ends { IfSome result (λ p. end_of p.1 ≡ end_of line.entry) }
-    ensures shorter { IfSome result (λ p. length p.0.bytes.now + length p.1.bytes.now ≤ length line.entry.bytes.now) }
+    ensures shorter { IfSome result
+        (λ p. length p.0.bytes.now + length p.1.bytes.now ≤ length line.entry.bytes.now) }
     ensures falls { IfSome result (λ p. length p.1.bytes.now < length line.entry.bytes.now) }
 {
     let bare = line.after(blank_len(separator, line.bytes));

@@ -1,3 +1,4 @@
 pub mod Lines
 pub mod HasLabels
 pub mod Scripts
+pub mod IsScript

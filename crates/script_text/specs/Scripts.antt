@@ -112,3 +112,4 @@ pub record IsItemRead (old new : Draft) (f : Found) (place : Place) : Type 0 whe
 pub record IsWhole (d : Draft) (lines : List TextLine) : Type 0 where
   pub calls : calls_of known_first (items 1 0 lines) ≡ Ok (calls_seen d)
   pub labels : d.labels ≡ table_of (calls_seen d)
+  pub few : length d.lines.items ≤ most_bytes

@@ -1,5 +1,5 @@
-ghost use Rattle.std.specs.Prelude.{◌≡◌, length, map, IfOk};
-ghost use Rattle.script_spec.specs.Grammar.{parse, table_of};
+ghost use Rattle.std.specs.Prelude.{◌≡◌, ◌≤◌, length, map, IfOk};
+ghost use Rattle.script_spec.specs.Grammar.{parse, table_of, most_bytes};
 ghost use Rattle.script_text.specs.Lines.{call_seen};
 ghost use Rattle.script_text.specs.Scripts.{Reads};
 
@@ -23,15 +23,16 @@ pub struct Script<'a> {
 }
 
 impl<'a> Model for Script<'a> {
-    ghost use Rattle.std.specs.Prelude.{◌≡◌, List, map};
-    ghost use Rattle.script_spec.specs.Grammar.{ScriptLine, table_of};
+    ghost use Rattle.std.specs.Prelude.{List, map};
+    ghost use Rattle.script_spec.specs.Grammar.{ScriptLine};
     ghost use Rattle.script_text.specs.Lines.{call_seen};
+    ghost use Rattle.script_text.specs.IsScript.{IsScript};
 
     ghost Value = { List ScriptLine };
 
     ghost view = { λ s. map call_seen s.lines.items };
 
-    ghost invariant = { λ s. s.labels ≡ table_of (map call_seen s.lines.items) };
+    ghost invariant = { λ s. IsScript (map call_seen s.lines.items) s.labels };
 }
 
 impl<'a> Script<'a> {
@@ -52,7 +53,8 @@ impl<'a> Script<'a> {
 
     /// The calls, in written order.
     pub fn lines(&self) -> &[Line<'a>]
-        ensures { map call_seen result.now ≡ self.now }
+        ensures calls { map call_seen result.now ≡ self.now }
+        ensures few { length result.now ≤ most_bytes }
     {
         self.lines.as_slice()
     }

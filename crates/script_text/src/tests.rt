@@ -9,7 +9,7 @@ fn words_and_texts_at_their_places(rt: HostRuntime) -> Result<(), Fail> {
             let lines = script.lines();
             assert_eq!(rt; lines.len(), 2);
             assert_eq!(rt; lines[0].line, 3);
-            assert_eq!(rt; lines[0].two.at, 32);
+            assert_eq!(rt; lines[0].two.at, 33);
             assert_eq!(rt; lines[0].text.bytes, b"A B rw\n\n".as_slice());
             assert_eq!(rt; lines[1].line, 6);
             assert_eq!(rt; lines[1].seq, 2);

@@ -1,5 +1,5 @@
 ghost use Rattle.std.specs.Prelude.{◌≡◌, ◌<◌, ◌^◌, ◌≤◌, ◌++◌, length, MatchResult, IfSome, Some, None};
-ghost use Rattle.smack_base.specs.Modes.{modes_of, letters_of, is_letter, is_either_case, has_letter, bad_letter, holds, union, without, when};
+ghost use Rattle.smack_base.specs.Modes.{modes_of, letters_of, is_letter, is_either_case, has_letter, bad_letter, is_modes, holds, union, without, when};
 
 use std::marker::Model;
 
@@ -56,19 +56,6 @@ fn first_bad(bytes: &[u8]) -> Option<usize>
     bytes.iter().position(|b| !is_mode_letter(*b))
 }
 
-fn set_of(bytes: &[u8]) -> Modes
-    ensures { result ≡ modes_of bytes.now }
-{
-    Modes {
-        read: has(b'r', bytes),
-        write: has(b'w', bytes),
-        execute: has(b'x', bytes),
-        append: has(b'a', bytes),
-        transmute: has(b't', bytes),
-        bring_up: has(b'b', bytes),
-    }
-}
-
 impl Modes {
     /// No access.
     pub const NONE: Modes = Modes {
@@ -88,7 +75,28 @@ impl Modes {
     {
         match first_bad(bytes) {
             Some(at) => Err(BadLetter { at: at as u32 }),
-            None => Ok(set_of(bytes)),
+            None => Ok(Modes::of(bytes)),
+        }
+    }
+
+    /// Whether a text is a mode set: it has no byte but mode letters and `-`.
+    pub fn are_letters(bytes: &[u8]) -> bool
+        ensures { result ≡ is_modes bytes.now }
+    {
+        first_bad(bytes).is_none()
+    }
+
+    /// The set of the letters that stand in a text, whatever else stands there.
+    pub fn of(bytes: &[u8]) -> Modes
+        ensures { result ≡ modes_of bytes.now }
+    {
+        Modes {
+            read: has(b'r', bytes),
+            write: has(b'w', bytes),
+            execute: has(b'x', bytes),
+            append: has(b'a', bytes),
+            transmute: has(b't', bytes),
+            bring_up: has(b'b', bytes),
         }
     }
 

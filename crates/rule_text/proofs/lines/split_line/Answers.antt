@@ -1,4 +1,5 @@
-use Rattle.rule_text.proofs.FirstLine.{line_cut, line_whole, not_empty}
+use Rattle.rule_text.proofs.FirstLine.{line_cut, line_whole}
+use Rattle.rule_text.proofs.EmptyTests.{not_empty}
 use Rattle.rule_text.proofs.lines.split_line.Goals as goal
 
 pub returns-then-len-text-clause-lines : goal.returns-then-len-text-clause-lines

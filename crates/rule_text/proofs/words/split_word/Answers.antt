@@ -1,6 +1,6 @@
 use Rattle.std.proofs.Common.{arith, ◌<◌}
 use Rattle.std.proofs.lemmas.List.{length-take}
-use Rattle.rule_text.proofs.FirstLine.{not_empty, is_empty_from}
+use Rattle.rule_text.proofs.EmptyTests.{not_empty, is_empty_from}
 use Rattle.rule_text.proofs.FirstWord.{word_cut, no_word, word_long, falls}
 use Rattle.rule_text.specs.Separators.{separates}
 use Rattle.rule_text.proofs.words.split_word.Goals as goal

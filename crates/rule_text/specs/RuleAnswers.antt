@@ -10,7 +10,13 @@ use Rattle.rule_text.specs.Parts.{placed}
 
 -- a good line, its fields as runs of bytes
 abbrev pub fields_of : RuleLine → RuleWords
-fields_of r = record { line = r.line; subject = placed r.subject; object = placed r.object; allow = placed r.allow; deny = option_map placed r.deny }
+fields_of r = record {
+  line = r.line;
+  subject = placed r.subject;
+  object = placed r.object;
+  allow = placed r.allow;
+  deny = option_map placed r.deny;
+}
 
 -- an answer, its fields as runs of bytes
 abbrev pub seen : Result RuleLine BadLine → Result RuleWords BadLine
@@ -20,7 +26,8 @@ seen (Err b) = Err b
 -- a good line with modes to be taken away, unless they have a fault
 abbrev pub denying : Placed → RuleWords → Result RuleWords BadLine
 denying deny r =
-    unless_fault (deny_fault deny) (record { line = r.line; subject = r.subject; object = r.object; allow = r.allow; deny = Some deny })
+    unless_fault (deny_fault deny)
+    (record { line = r.line; subject = r.subject; object = r.object; allow = r.allow; deny = Some deny })
 
 -- the fields of a good line have no fault
 pub record HasGoodFields (r : RuleLine) : Type 0 where

@@ -1,0 +1,31 @@
+use Rattle.std.specs.Prelude.{◌+◌, Bool, true, false, ◌||◌, fold}
+use Rattle.smack_base.specs.declared.ids.LabelId.{LabelId}
+use Rattle.smack_base.specs.declared.rule_op.RuleOp.{RuleOp}
+use Rattle.smack_base.specs.declared.rule_op.RuleOp.TheVariants.{OnlyClear, OnlyAdd}
+use Rattle.rules_spec.specs.declared.Batch.{Batch}
+use Rattle.rules_spec.specs.Versions.{same_label, after_write, after_ambient, after_ptrace, after_logging}
+use Rattle.rules_spec.specs.Rulings.{Ruling}
+
+-- whether the onlycap list is empty after one more write
+abbrev pub after_empty : Bool → RuleOp → Bool
+after_empty before OnlyClear = true
+after_empty before (OnlyAdd l) = false
+after_empty before _ = before
+
+-- whether the onlycap list has a label after one more write
+abbrev pub after_holds : LabelId → Bool → RuleOp → Bool
+after_holds l before OnlyClear = false
+after_holds l before (OnlyAdd l') = before || same_label l' l
+after_holds l before _ = before
+
+-- what is said after one more batch, from what was said before it: each answer by the writes of the batch, in order
+abbrev pub after_batch : Ruling → Batch → Ruling
+after_batch before batch = record {
+  number = before.number + 1;
+  rights = λ s o. fold (after_write s o) (before.rights s o) batch.ops;
+  only_empty = fold after_empty before.only_empty batch.ops;
+  only_holds = λ l. fold (after_holds l) (before.only_holds l) batch.ops;
+  ambient = fold after_ambient before.ambient batch.ops;
+  ptrace = fold after_ptrace before.ptrace batch.ops;
+  logging = fold after_logging before.logging batch.ops;
+}

@@ -1,0 +1,14 @@
+//! Runs a script: its record.
+//!
+//! `replay` takes the calls of a script in written order, on one thread, each judged at the newest
+//! rule version. Its record is `replayed` of `record_spec`, one function of the script.
+//!
+//! Stands on script_text for the calls, on smackfs for rule texts, and on rule_fold and
+//! smack_decide for the answers.
+#![tactic(auto)]
+
+mod replaying;
+mod runner;
+
+pub use record_spec::RunRecord;
+pub use replaying::replay;

@@ -1,0 +1,131 @@
+ghost use Rattle.std.specs.Prelude.{◌≡◌, ◌<◌, ◌+◌, ◌-◌, ◌^◌, ◌++◌, ◌∷◌, [], Ok, Some, length, IfOk, OnOk};
+ghost use Rattle.text_spec.specs.Names.{id_of};
+ghost use Rattle.script_spec.specs.Files.{compiled};
+ghost use Rattle.script_spec.specs.declared.Compiled.TheVariants.{Rules};
+ghost use Rattle.script_text.specs.Lines.{call_seen};
+ghost use Rattle.record_spec.specs.Replays.{modes_in as modes_of_word, after_line, published, answered, run_first};
+ghost use Rattle.script_run.specs.Running.{seen, IsRunning, Runs};
+
+use label_table::Labels;
+use record_spec::{AskedLine, AskedLines, AskedWhat};
+use rule_fold::{Batch, Journal, RuleIndex};
+use script_text::{Line, Verb, verb_of};
+use smack_base::{LabelId, Modes, RuleOps};
+use smack_decide::cases;
+use smackfs::{Compiled, TextFault, compile};
+use std::alloc::{AllocError, Global};
+
+/// A run so far: the rules of its newest version, and what it leaves.
+#[derive(Drop)]
+pub struct Runner {
+    pub rules: RuleIndex,
+    pub journal: Journal,
+    pub asked: AskedLines,
+}
+
+impl Runner {
+    /// No call has run.
+    pub fn new(alloc: Global) -> Result<Runner, AllocError>
+        ensures first { IfOk result (λ run. seen run ≡ run_first) }
+        ensures running { IfOk result IsRunning }
+    {
+        Ok(Runner {
+            rules: RuleIndex::new(alloc)?,
+            journal: Journal::new(alloc),
+            asked: AskedLines::new(alloc),
+        })
+    }
+
+    /// Publishes rule writes as one batch.
+    fn publish(&mut self, line: &Line<'_>, ops: RuleOps) -> Result<(), AllocError>
+        requires few { length self.old.journal < 2 ^ 32 - 1 }
+        requires running { IsRunning self.old }
+        ensures { OnOk result (Runs self.old self.new (published (seen self.old) (call_seen line.now) (Ok (Rules ops)))) }
+    {
+        let batch = Batch {
+            task: line.task,
+            seq: line.seq,
+            ops,
+        };
+        self.rules.absorb(&batch)?;
+        self.journal.push(batch)?;
+        Ok(())
+    }
+
+    /// Publishes the text of a write, where it is accepted.
+    fn write(&mut self, alloc: Global, labels: &Labels, line: &Line<'_>) -> Result<(), AllocError>
+        requires few { length self.old.journal < 2 ^ 32 - 1 }
+        requires running { IsRunning self.old }
+        ensures { OnOk result (Runs self.old self.new (published (seen self.old) (call_seen line.now) (compiled labels.now line.now.one.bytes.now line.now.text.bytes.now))) }
+    {
+        match compile(alloc, labels, line.one.bytes, line.text.bytes) {
+            Ok(Compiled::Rules(ops)) => self.publish(line, ops),
+            Ok(Compiled::SelfRules(_)) => Ok(()),
+            Ok(Compiled::Relabels(_)) => Ok(()),
+            Err(TextFault::Refused(_)) => Ok(()),
+            Err(TextFault::Memory) => Err(AllocError),
+        }
+    }
+
+    /// Answers a question in the newest version.
+    fn answer(
+        &mut self,
+        line: &Line<'_>,
+        s: LabelId,
+        o: LabelId,
+        m: Modes,
+    ) -> Result<(), AllocError>
+        requires running { IsRunning self.old }
+        ensures { OnOk result (Runs self.old self.new (answered (seen self.old) (call_seen line.now) (Some s) (Some o) (Some m))) }
+    {
+        self.asked.push(AskedLine {
+            task: line.task,
+            seq: line.seq,
+            version: self.rules.version(),
+            what: AskedWhat::Ask(cases(&self.rules, s, o, m)),
+        })
+    }
+
+    /// Answers the question of a line, where its words are labels of the table and modes.
+    fn ask(&mut self, labels: &Labels, line: &Line<'_>) -> Result<(), AllocError>
+        requires running { IsRunning self.old }
+        ensures { OnOk result (Runs self.old self.new (answered (seen self.old) (call_seen line.now) (id_of labels.now line.now.one.bytes.now) (id_of labels.now line.now.two.bytes.now) (modes_of_word line.now.three.bytes.now))) }
+    {
+        let (Some(s), Some(o)) = (labels.id(line.one.bytes), labels.id(line.two.bytes)) else {
+            return Ok(());
+        };
+        match modes_in(line.three.bytes) {
+            Some(m) => self.answer(line, s, o, m),
+            None => Ok(()),
+        }
+    }
+
+    /// Runs one more call.
+    pub fn step(
+        &mut self,
+        alloc: Global,
+        labels: &Labels,
+        line: &Line<'_>,
+    ) -> Result<(), AllocError>
+        requires few { length self.old.journal < 2 ^ 32 - 1 }
+        requires running { IsRunning self.old }
+        ensures { OnOk result (Runs self.old self.new (after_line labels.now (seen self.old) (call_seen line.now))) }
+    {
+        match verb_of(line.verb.bytes) {
+            Some(Verb::Write) => self.write(alloc, labels, line),
+            Some(Verb::Ask) => self.ask(labels, line),
+            None => Ok(()),
+        }
+    }
+}
+
+/// The modes that a word is, where it has no bad letter.
+fn modes_in(word: &[u8]) -> Option<Modes>
+    ensures { result ≡ modes_of_word word.now }
+{
+    if Modes::are_letters(word) {
+        Some(Modes::of(word))
+    } else {
+        None
+    }
+}

@@ -1,0 +1,21 @@
+ghost use Rattle.std.specs.Prelude.{◌≡◌};
+ghost use Rattle.smack_program.specs.Top.{GivesRecord};
+
+use record_spec::RunRecord;
+use script_run::replay;
+use script_text::{Script, ScriptFault};
+use std::alloc::Global;
+
+/// The record of the script that these bytes are, when it is replayed.
+pub fn record_of(alloc: Global, bytes: &[u8]) -> Result<RunRecord, ScriptFault>
+    ensures { GivesRecord bytes.now result }
+{
+    let script = match Script::read(alloc, bytes) {
+        Ok(script) => script,
+        Err(fault) => return Err(fault),
+    };
+    match replay(alloc, &script) {
+        Ok(record) => Ok(record),
+        Err(_) => Err(ScriptFault::Memory),
+    }
+}

@@ -1,0 +1,21 @@
+use Rattle.std.specs.Prelude.{◌≡◌, List, Result, Ok, Err}
+use Rattle.smack_base.specs.declared.rule_op.RuleOp.{RuleOp}
+use Rattle.script_spec.specs.declared.Refusal.{Refusal}
+use Rattle.script_spec.specs.declared.Compiled.{Compiled}
+use Rattle.smackfs.specs.declared.compiling.TextFault.{TextFault}
+use Rattle.smackfs.specs.declared.compiling.TextFault.TheVariants.{Refused, Memory}
+
+-- why there is no answer; want of memory is free
+abbrev pub Faults : {A : Type 0} → TextFault → Result A Refusal → Type 0
+Faults (Refused refusal) is = is ≡ Err refusal
+Faults Memory is = Unit {0}
+
+-- the writes of a text are these, or it is refused
+abbrev pub Gives : Result (List RuleOp) TextFault → Result (List RuleOp) Refusal → Type 0
+Gives (Ok ops) is = is ≡ Ok ops
+Gives (Err fault) is = Faults fault is
+
+-- what a text becomes is this, or it is refused
+abbrev pub Compiles : Result Compiled TextFault → Result Compiled Refusal → Type 0
+Compiles (Ok it) is = is ≡ Ok it
+Compiles (Err fault) is = Faults fault is
