@@ -1,4 +1,4 @@
-ghost use Rattle.std.specs.Prelude.{◌≡◌, ◌<◌, ◌≤◌, ◌↔◌, false, length, slice_index_or, map, [], IfOk, IfSome, OnOk, OnErr};
+ghost use Rattle.std.specs.Prelude.{◌≡◌, ℕ, ◌<◌, ◌≤◌, ◌↔◌, false, length, slice_index_or, map, [], IfOk, IfSome, OnOk, OnErr};
 ghost use Rattle.text_spec.specs.Names.{predefined, place_of, has_name, with_name, id_of};
 
 use indexmap::IndexSet;
@@ -36,7 +36,8 @@ impl Model for Labels {
 
 /// Puts a text last, unless it is there.
 fn put(texts: &mut IndexSet<Vec<u8>>, text: &[u8]) -> Result<(), AllocError>
-    ensures ok { OnOk result (map (λ t. t.items) texts.new.keys ≡ with_name (map (λ t. t.items) texts.old.keys) text.now) }
+    ensures ok { OnOk result
+        (map (λ t. t.items) texts.new.keys ≡ with_name (map (λ t. t.items) texts.old.keys) text.now) }
     ensures err { OnErr result (texts.new.keys ≡ texts.old.keys) }
 {
     let text = Vec::from_slice(*texts.allocator(), text)?;
@@ -61,14 +62,22 @@ impl Labels {
         Ok(Labels { texts })
     }
 
-    /// The id of a label: the one that it has, or the next. On an error the table is as before.
-    /// `TooMany` comes exactly where the label is new and 65,535 labels stand.
+    /// The id of a label: the one that it has, or the next. Ids that were given before stay.
+    ///
+    /// `TooMany` comes exactly where the label is new and 65,535 labels stand. On an error the table
+    /// is as before, and the label is new.
     pub fn add(&mut self, label: &Label) -> Result<LabelId, LabelsFault>
-        ensures table { IfOk result (λ id. (self.new ≡ with_name self.old label.now) × (id.0 ≡ place_of self.new label.now)) }
-        ensures named { IfOk result (λ id. (id.0 < length self.new) × (slice_index_or self.new id.0 [] ≡ label.now)) }
+        ensures table { IfOk result (λ id. (self.new ≡ with_name self.old label.now)
+            × (id.0 ≡ place_of self.new label.now)) }
+        ensures named { IfOk result (λ id. (id.0 < length self.new)
+            × (slice_index_or self.new id.0 [] ≡ label.now)) }
         ensures limit { IfOk result (λ _. length self.new ≤ 65535) }
-        ensures too_many { (result ≡ Err LabelsFault.TooMany) ↔ ((has_name self.old label.now ≡ false) × (length self.old ≡ 65535)) }
+        ensures too_many { (result ≡ Err LabelsFault.TooMany)
+            ↔ ((has_name self.old label.now ≡ false) × (length self.old ≡ 65535)) }
         ensures err { OnErr result (self.new ≡ self.old) }
+        ensures only_new { OnErr result (has_name self.old label.now ≡ false) }
+        ensures kept { (id : ℕ) → id < length self.old
+            → (id < length self.new) × (slice_index_or self.new id [] ≡ slice_index_or self.old id []) }
     {
         if let Some(id) = self.id(label.bytes()) {
             return Ok(id);
@@ -86,7 +95,8 @@ impl Labels {
     /// The id of a label text; `None` exactly where it is not in the table. Takes no memory.
     pub fn id(&self, bytes: &[u8]) -> Option<LabelId>
         ensures id { result ≡ id_of self.now bytes.now }
-        ensures named { IfSome result (λ id. (id.0 < length self.now) × (slice_index_or self.now id.0 [] ≡ bytes.now)) }
+        ensures named { IfSome result (λ id. (id.0 < length self.now)
+            × (slice_index_or self.now id.0 [] ≡ bytes.now)) }
     {
         match self.texts.get_index_of(bytes) {
             Some(place) => Some(LabelId(place as u16)),

@@ -10,7 +10,7 @@ use Rattle.rules_spec.specs.Rulings.{Ruling, ruling}
 abbrev pub Entry : Type 0
 Entry = (ℕ × ℕ) × Modes
 
--- what an index holds: the rules, the onlycap list as numbers of labels, the other settings, and how many batches it took
+-- what an index holds: rules, the onlycap list as numbers of labels, the other settings, how many batches it took
 pub record IndexValue : Type 0 where
   pub entries : List Entry
   pub only : List ℕ
@@ -19,6 +19,7 @@ pub record IndexValue : Type 0 where
   pub logging : ℕ
   pub version : ℕ
 
+-- whether a key is that of subject s and object o
 abbrev pub is_key : LabelId → LabelId → ℕ × ℕ → Bool
 is_key s o k = (s.0 == k.0) && (o.0 == k.1)
 

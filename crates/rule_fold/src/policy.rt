@@ -27,7 +27,8 @@ pub struct Policy {
 /// Sets the modes of a pair.
 fn set_rule(rules: &mut Rules, s: LabelId, o: LabelId, m: Modes)
     requires { 0 < spare rules.old }
-    ensures after { (a b : LabelId) → look rules.new.entries a b ≡ after_write a b (look rules.old.entries a b) (RuleOp.Set s o m) }
+    ensures after { (a b : LabelId)
+        → look rules.new.entries a b ≡ after_write a b (look rules.old.entries a b) (RuleOp.Set s o m) }
     ensures room { spare rules.old ≤ spare rules.new + 1 }
 {
     let _ = rules.insert((s.0, o.0), m).unwrap();
@@ -36,7 +37,8 @@ fn set_rule(rules: &mut Rules, s: LabelId, o: LabelId, m: Modes)
 /// Adds to the modes of a pair and takes from them; with no rule it begins from none.
 fn change_rule(rules: &mut Rules, s: LabelId, o: LabelId, allow: Modes, deny: Modes)
     requires { 0 < spare rules.old }
-    ensures after { (a b : LabelId) → look rules.new.entries a b ≡ after_write a b (look rules.old.entries a b) (RuleOp.Change s o allow deny) }
+    ensures after { (a b : LabelId)
+        → look rules.new.entries a b ≡ after_write a b (look rules.old.entries a b) (RuleOp.Change s o allow deny) }
     ensures room { spare rules.old ≤ spare rules.new + 1 }
 {
     let before = rules.get(&(s.0, o.0)).copied().unwrap_or(Modes::NONE);
@@ -45,7 +47,8 @@ fn change_rule(rules: &mut Rules, s: LabelId, o: LabelId, allow: Modes, deny: Mo
 
 /// Takes all modes from the rules of a subject; the rules stay.
 fn revoke(rules: &mut Rules, s: LabelId)
-    ensures after { (a b : LabelId) → look rules.new.entries a b ≡ after_write a b (look rules.old.entries a b) (RuleOp.Revoke s) }
+    ensures after { (a b : LabelId)
+        → look rules.new.entries a b ≡ after_write a b (look rules.old.entries a b) (RuleOp.Revoke s) }
     ensures room { KeepsRoom rules.old rules.new }
 {
     rules.retain(|pair, modes| {
@@ -59,8 +62,10 @@ fn revoke(rules: &mut Rules, s: LabelId)
 /// Puts a label into the onlycap list.
 fn add_only(only: &mut IndexSet<u16>, l: LabelId)
     requires { 0 < only_spare only.old }
-    ensures empty { (length only.new.keys == 0) ≡ after_empty (length only.old.keys == 0) (RuleOp.OnlyAdd l) }
-    ensures holds { (a : LabelId) → has_number only.new.keys a ≡ after_holds a (has_number only.old.keys a) (RuleOp.OnlyAdd l) }
+    ensures empty { (length only.new.keys == 0)
+        ≡ after_empty (length only.old.keys == 0) (RuleOp.OnlyAdd l) }
+    ensures holds { (a : LabelId)
+        → has_number only.new.keys a ≡ after_holds a (has_number only.old.keys a) (RuleOp.OnlyAdd l) }
     ensures room { only_spare only.old ≤ only_spare only.new + 1 }
 {
     let _ = only.insert(l.0).unwrap();
@@ -88,9 +93,12 @@ impl Policy {
     fn put(&mut self, op: &RuleOp)
         requires rules_room { 0 < spare self.old.rules }
         requires only_room { 0 < only_spare self.old.only }
-        ensures rights { (s o : LabelId) → look self.new.rules.entries s o ≡ after_write s o (look self.old.rules.entries s o) op.now }
-        ensures only_empty { (length self.new.only.keys == 0) ≡ after_empty (length self.old.only.keys == 0) op.now }
-        ensures only_holds { (l : LabelId) → has_number self.new.only.keys l ≡ after_holds l (has_number self.old.only.keys l) op.now }
+        ensures rights { (s o : LabelId)
+            → look self.new.rules.entries s o ≡ after_write s o (look self.old.rules.entries s o) op.now }
+        ensures only_empty { (length self.new.only.keys == 0)
+            ≡ after_empty (length self.old.only.keys == 0) op.now }
+        ensures only_holds { (l : LabelId)
+            → has_number self.new.only.keys l ≡ after_holds l (has_number self.old.only.keys l) op.now }
         ensures ambient { self.new.ambient ≡ after_ambient self.old.ambient op.now }
         ensures ptrace { self.new.ptrace ≡ after_ptrace self.old.ptrace op.now }
         ensures logging { self.new.logging ≡ after_logging self.old.logging op.now }
@@ -119,9 +127,12 @@ impl Policy {
     pub fn put_all(&mut self, ops: &[RuleOp])
         requires rules_room { length ops.now ≤ spare self.old.rules }
         requires only_room { length ops.now ≤ only_spare self.old.only }
-        ensures rights { (s o : LabelId) → look self.new.rules.entries s o ≡ fold (after_write s o) (look self.old.rules.entries s o) ops.now }
-        ensures only_empty { (length self.new.only.keys == 0) ≡ fold after_empty (length self.old.only.keys == 0) ops.now }
-        ensures only_holds { (l : LabelId) → has_number self.new.only.keys l ≡ fold (after_holds l) (has_number self.old.only.keys l) ops.now }
+        ensures rights { (s o : LabelId)
+            → look self.new.rules.entries s o ≡ fold (after_write s o) (look self.old.rules.entries s o) ops.now }
+        ensures only_empty { (length self.new.only.keys == 0)
+            ≡ fold after_empty (length self.old.only.keys == 0) ops.now }
+        ensures only_holds { (l : LabelId)
+            → has_number self.new.only.keys l ≡ fold (after_holds l) (has_number self.old.only.keys l) ops.now }
         ensures ambient { self.new.ambient ≡ fold after_ambient self.old.ambient ops.now }
         ensures ptrace { self.new.ptrace ≡ fold after_ptrace self.old.ptrace ops.now }
         ensures logging { self.new.logging ≡ fold after_logging self.old.logging ops.now }

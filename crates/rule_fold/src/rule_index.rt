@@ -11,7 +11,7 @@ use smack_base::{Duplicate, LabelId, Modes};
 use std::alloc::{AllocError, Global};
 use std::marker::Model;
 
-/// Answers for one version.
+/// The rules and settings of one version, ready to be asked.
 #[derive(Drop)]
 pub struct RuleIndex {
     policy: Policy,
@@ -23,7 +23,14 @@ impl Model for RuleIndex {
 
     ghost Value = { IndexValue };
 
-    ghost view = { λ r. record { entries = r.policy.rules.entries; only = r.policy.only.keys; ambient = r.policy.ambient; ptrace = r.policy.ptrace; logging = r.policy.logging; version = r.version } };
+    ghost view = { λ r. record {
+      entries = r.policy.rules.entries;
+      only = r.policy.only.keys;
+      ambient = r.policy.ambient;
+      ptrace = r.policy.ptrace;
+      logging = r.policy.logging;
+      version = r.version;
+    } };
 }
 
 impl RuleIndex {
@@ -42,7 +49,8 @@ impl RuleIndex {
     pub fn absorb(&mut self, batch: &Batch) -> Result<(), AllocError>
         requires { self.old.version < 2 ^ 32 - 1 }
         ensures exact { OnOk result (ruling_of self.new ≡ after_batch (ruling_of self.old) batch.now) }
-        ensures next { OnOk result ((version : List Batch) → StandsFor self.old version → StandsFor self.new (version ++ batch.now ∷ [])) }
+        ensures next { OnOk result ((version : List Batch)
+            → StandsFor self.old version → StandsFor self.new (version ++ batch.now ∷ [])) }
         ensures err { OnErr result (self.new ≡ self.old) }
     {
         let ops = batch.ops.items();
@@ -53,10 +61,11 @@ impl RuleIndex {
         Ok(())
     }
 
-    /// The modes of a pair; `None` exactly where there is no rule.
+    /// The modes of the pair's rule; `None` exactly where there is no rule. A rule may have no mode.
     pub fn rights(&self, s: LabelId, o: LabelId) -> Option<Modes>
         ensures exact { result ≡ (ruling_of self.now).rights s o }
-        ensures stands { (version : List Batch) → StandsFor self.now version → result ≡ rights version s o }
+        ensures stands { (version : List Batch) → StandsFor self.now version
+            → result ≡ rights version s o }
     {
         self.policy.rules.get(&(s.0, o.0)).copied()
     }
@@ -64,7 +73,8 @@ impl RuleIndex {
     /// Whether the onlycap list is empty.
     pub fn only_empty(&self) -> bool
         ensures exact { result ≡ (ruling_of self.now).only_empty }
-        ensures stands { (version : List Batch) → StandsFor self.now version → result ≡ (ruling version).only_empty }
+        ensures stands { (version : List Batch) → StandsFor self.now version
+            → result ≡ (ruling version).only_empty }
     {
         self.policy.only.is_empty()
     }
@@ -72,31 +82,35 @@ impl RuleIndex {
     /// Whether a label is in the onlycap list.
     pub fn only_holds(&self, l: LabelId) -> bool
         ensures exact { result ≡ (ruling_of self.now).only_holds l }
-        ensures stands { (version : List Batch) → StandsFor self.now version → result ≡ (ruling version).only_holds l }
+        ensures stands { (version : List Batch) → StandsFor self.now version
+            → result ≡ (ruling version).only_holds l }
     {
         self.policy.only.contains(&l.0)
     }
 
-    /// The label of packets from outside.
+    /// The ambient label, that of packets from outside: the one written last, `_` at first.
     pub fn ambient(&self) -> LabelId
         ensures exact { result ≡ (ruling_of self.now).ambient }
-        ensures stands { (version : List Batch) → StandsFor self.now version → result ≡ (ruling version).ambient }
+        ensures stands { (version : List Batch) → StandsFor self.now version
+            → result ≡ (ruling version).ambient }
     {
         self.policy.ambient
     }
 
-    /// The ptrace policy.
+    /// The ptrace policy that was written last, 0 at first.
     pub fn ptrace(&self) -> u8
         ensures exact { result ≡ (ruling_of self.now).ptrace }
-        ensures stands { (version : List Batch) → StandsFor self.now version → result ≡ (ruling version).ptrace }
+        ensures stands { (version : List Batch) → StandsFor self.now version
+            → result ≡ (ruling version).ptrace }
     {
         self.policy.ptrace
     }
 
-    /// The logging mode.
+    /// The logging mode that was written last, 1 at first.
     pub fn logging(&self) -> u8
         ensures exact { result ≡ (ruling_of self.now).logging }
-        ensures stands { (version : List Batch) → StandsFor self.now version → result ≡ (ruling version).logging }
+        ensures stands { (version : List Batch) → StandsFor self.now version
+            → result ≡ (ruling version).logging }
     {
         self.policy.logging
     }
@@ -104,7 +118,8 @@ impl RuleIndex {
     /// The number of the version: how many batches were absorbed.
     pub fn version(&self) -> u32
         ensures exact { result ≡ (ruling_of self.now).number }
-        ensures stands { (version : List Batch) → StandsFor self.now version → result ≡ length version }
+        ensures stands { (version : List Batch) → StandsFor self.now version
+            → result ≡ length version }
     {
         self.version
     }

@@ -27,8 +27,8 @@ denied_by n applies = record { applies = applies; allowed = false; number = n }
 abbrev pub allowed_by : ℕ → Bool → OrderedCase
 allowed_by n applies = record { applies = applies; allowed = true; number = n }
 
--- The ordered cases for subject s, object o and modes m, where the pair has these rights (Smack guide, "Smack
--- Basics": the list "in order" of what determines access).
+-- The ordered cases for subject s, object o and modes m, where the pair has these rights (Smack guide, "Access
+-- Rules").
 abbrev pub ordered_cases : Option Modes → LabelId → LabelId → Modes → List OrderedCase
 ordered_cases rule s o m =
     denied_by 1 (same_label s star)

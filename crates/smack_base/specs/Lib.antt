@@ -1,2 +1,4 @@
 pub mod Labels
 pub mod Modes
+pub mod Paths
+pub mod PathNames

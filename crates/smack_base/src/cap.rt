@@ -1,5 +1,5 @@
-/// A capability that bears on Smack (Smack guide, "Accessing and Altering Smack Labels" and
-/// "Smack Basics").
+/// A capability that bears on Smack (Smack guide, "Privilege", and `onlycap` and `ptrace` in its
+/// list of smackfs files).
 #[derive(Clone, Copy, Debug, PartialEq, Eq)]
 pub enum Cap {
     /// CAP_MAC_ADMIN: change rules, attributes and the own label.

@@ -4,7 +4,7 @@ ghost use Rattle.smack_base.specs.Labels.{label_fault, is_label_byte};
 use std::marker::Model;
 
 /// A Smack label: 1 to 255 bytes from 0x21 to 0x7E, none of them `/`, `\`, `'` or `"`, the first
-/// not `-` (Smack guide, "Smack Labels"; the exact bytes are our own). Upper and lower case are
+/// not `-` (Smack guide, "Labels"; the exact bytes are our own). Upper and lower case are
 /// different labels.
 #[derive(Debug, Drop)]
 pub struct Label {

@@ -3,7 +3,7 @@ ghost use Rattle.smack_base.specs.Modes.{modes_of, letters_of, is_letter, is_eit
 
 use std::marker::Model;
 
-/// A set of access modes (Smack guide, "Smack Rules" and "smackfs").
+/// A set of access modes (Smack guide, "Access Rule Format").
 #[derive(Clone, Copy, Debug, PartialEq, Eq)]
 pub struct Modes {
     /// `r`

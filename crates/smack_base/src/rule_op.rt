@@ -3,7 +3,7 @@ use crate::modes::Modes;
 use crate::sequence::{Duplicate, Sequence};
 use std::alloc::AllocError;
 
-/// One write to the rules or to a setting (Smack guide, "smackfs").
+/// One write to the rules or to a setting (Smack guide, its list of smackfs files).
 #[derive(Clone, Copy, Debug, PartialEq, Eq)]
 pub enum RuleOp {
     /// The pair's modes are these (`load2`).

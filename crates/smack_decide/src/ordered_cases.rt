@@ -46,7 +46,7 @@ fn first_case(rules: &RuleIndex, s: LabelId, o: LabelId, m: Modes) -> (bool, u8)
     }
 }
 
-/// The verdict of the ordered cases 1 to 7 (Smack guide, "Smack Basics"). The empty set of modes
+/// The verdict of the ordered cases 1 to 7 (Smack guide, "Access Rules"). The empty set of modes
 /// walks the same cases.
 pub fn cases(rules: &RuleIndex, s: LabelId, o: LabelId, m: Modes) -> Verdict
     ensures exact { result ≡ verdict_of_cases (ruling_of rules.now) s o m }

@@ -1,9 +1,10 @@
-use crate::cases;
+use crate::{cases, decide, effective};
 use rule_fold::RuleIndex;
 use rules_spec::Batch;
-use smack_base::{LabelId, Modes, RuleOp, RuleOps};
+use smack_base::{Cap, LabelId, Modes, Pair, Pairs, RuleOp, RuleOps};
 use std::process::Abort;
 use std::test::Fail;
+use task_creds::Cred;
 
 const A: LabelId = LabelId(5);
 
@@ -68,9 +69,59 @@ fn the_first_case_that_applies(rt: HostRuntime) -> Result<(), Fail> {
     ];
     for (s, o, m, allowed, case) in rows {
         let v = cases(&rules, s, o, modes(&rt, m));
-        assert_eq!(rt; v.allowed, allowed);
-        assert_eq!(rt; v.case, case);
-        assert_eq!(rt; v.over, 0);
+        assert!(rt; v.allowed == allowed && v.case == case && v.over == 0);
     }
+    Ok(())
+}
+
+/// Whether a question is answered so: yes or no, the case, and the case it is over.
+fn answers(cred: &Cred, rules: &RuleIndex, o: LabelId, m: Modes, answer: (bool, u8, u8)) -> bool {
+    let v = decide(cred, rules, cred.label(), o, m);
+    v.allowed == answer.0 && v.case == answer.1 && v.over == answer.2
+}
+
+#[test]
+fn self_rules_and_privilege(rt: HostRuntime) -> Result<(), Fail> {
+    let rules = rules(&rt)?;
+    let mut cred = Cred::first(rt.alloc());
+    cred.set_label(A);
+    let write = modes(&rt, b"w");
+    assert!(rt; answers(&cred, &rules, B, write, (true, 6, 0)));
+    assert!(rt; answers(&cred, &rules, C, write, (true, 9, 7)));
+    let mut self_rules = Pairs::new(rt.alloc());
+    self_rules.push(Pair {
+        s: A,
+        o: B,
+        m: modes(&rt, b"r"),
+    })?;
+    assert!(rt; cred.add_self(&self_rules).is_ok());
+    assert!(rt; answers(&cred, &rules, B, write, (true, 9, 8)));
+    cred.drop_cap(Cap::MacOverride);
+    assert!(rt; answers(&cred, &rules, B, write, (false, 8, 0)));
+    assert!(rt; answers(&cred, &rules, B, modes(&rt, b"r"), (true, 6, 0)));
+    assert!(rt; answers(&cred, &rules, C, write, (false, 7, 0)));
+    Ok(())
+}
+
+#[test]
+fn capabilities_under_onlycap(rt: HostRuntime) -> Result<(), Fail> {
+    let mut rules = rules(&rt)?;
+    let mut cred = Cred::first(rt.alloc());
+    assert!(rt; effective(&cred, Cap::MacAdmin, &rules));
+    let mut ops = RuleOps::new(rt.alloc());
+    ops.push(RuleOp::OnlyAdd { l: A })?;
+    assert!(rt; rules.version() == 1);
+    rules.absorb(&Batch {
+        task: 0,
+        seq: 2,
+        ops,
+    })?;
+    assert!(rt; !effective(&cred, Cap::MacAdmin, &rules));
+    assert!(rt; !effective(&cred, Cap::MacOverride, &rules));
+    assert!(rt; effective(&cred, Cap::SysPtrace, &rules));
+    cred.set_label(A);
+    assert!(rt; effective(&cred, Cap::MacAdmin, &rules));
+    cred.drop_cap(Cap::MacAdmin);
+    assert!(rt; !effective(&cred, Cap::MacAdmin, &rules));
     Ok(())
 }

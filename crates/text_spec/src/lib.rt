@@ -8,7 +8,7 @@
 
 use smack_base::LabelFault;
 
-/// The forms of a text of rules (Smack guide, "smackfs").
+/// The forms of a text of rules (Smack guide, its list of smackfs files).
 #[derive(Clone, Copy, Debug, PartialEq, Eq)]
 pub enum RuleForm {
     /// `subject object access`, parted by spaces or tabs (`load2`).

@@ -1,0 +1,2 @@
+pub mod SelfRules
+pub mod Limits
