@@ -1,4 +1,4 @@
-use Rattle.std.proofs.Common.{◌≡◌, List, [], ◌∷◌, refl, Ok, Err, true, sym, ◌∙◌}
+use Rattle.std.proofs.Common.{◌≡◌, List, [], ◌∷◌, refl, Ok, Err, true}
 use Rattle.std.specs.Prelude.{Result, is_ok}
 use Rattle.text_spec.specs.declared.BadLine.{BadLine}
 use Rattle.text_spec.specs.RuleTexts.{RuleWords, all_good, with_first}

@@ -1,5 +1,5 @@
-use Rattle.std.proofs.Common.{◌≡◌, ◌≤◌, ℕ, Bool, List, [], ◌∷◌, length, refl, sym, ◌∙◌, ap, Some, None, Ok, Err, true, false, inl, inr, arith}
-use Rattle.std.specs.Prelude.{Option, Result, IfSome, if◌then◌else◌, nat_lt, nat_eq, not, ◌||◌, position}
+use Rattle.std.proofs.Common.{◌≡◌, ◌≤◌, ℕ, Bool, List, [], ◌∷◌, length, refl, sym, Some, None, Ok, Err, true, false, inl, inr, arith}
+use Rattle.std.specs.Prelude.{Option, Result, IfSome, nat_lt, nat_eq, not, ◌||◌, position}
 use Rattle.std.specs.Option.{option_map}
 use Rattle.std.proofs.lemmas.Bool.{cases_Bool, le-ltb}
 use Rattle.std.specs.List.{position_or_len}
@@ -16,7 +16,7 @@ use Rattle.text_spec.specs.declared.RuleForm.TheVariants.{Long, Short, Change}
 use Rattle.text_spec.specs.Texts.{Placed, TextLine}
 use Rattle.text_spec.specs.RuleTexts.{RuleWords, unless_fault, first_fault, unless_bare, line_answer, long_line, change_line, short_line, short_fields, short_label_fault, short_bad_letter, blank_words, field, deny_fault}
 use Rattle.rule_text.specs.declared.rule_line.RuleLine.{RuleLine}
-use Rattle.rule_text.specs.RuleAnswers.{seen, IsGood, HasGoodFields}
+use Rattle.rule_text.specs.RuleAnswers.{seen, IsGood}
 
 -- the fields of a line, as runs of bytes, have no fault
 record AreGood (r : RuleWords) : Type 0 where

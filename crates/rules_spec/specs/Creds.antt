@@ -1,11 +1,10 @@
-use Rattle.std.specs.Prelude.{ℕ, ◌+◌, Bool, true, false, ◌&&◌, ◌||◌, not, if◌then◌else◌, List, [], ◌∷◌, ◌++◌, Option, Some, None, Result, Ok, Err, fold, length, nat_lt}
-use Rattle.std.specs.List.{list_any}
+use Rattle.std.specs.Prelude.{ℕ, Bool, true, false, ◌&&◌, ◌||◌, if◌then◌else◌, List, [], ◌∷◌, Option, Some, None, fold}
 use Rattle.smack_base.specs.declared.modes.Modes.{Modes}
 use Rattle.smack_base.specs.declared.ids.LabelId.{LabelId}
 use Rattle.smack_base.specs.declared.cap.Cap.{Cap}
 use Rattle.smack_base.specs.declared.cap.Cap.TheVariants.{MacAdmin, MacOverride, SysPtrace}
 use Rattle.smack_base.specs.declared.rule_op.Pair.{Pair}
-use Rattle.rules_spec.specs.Versions.{floor, same_label, same_pair}
+use Rattle.rules_spec.specs.Versions.{floor, same_pair}
 use Rattle.rules_spec.specs.Rulings.{Ruling, has_label}
 
 -- the credentials of a task: its label, the capabilities that it holds, its self rules, and the labels that it may take

@@ -8,7 +8,6 @@ use Rattle.record_spec.specs.Show.{joined, head_lines, journal_lines, asked_line
 use Rattle.run_report.proofs.Wrote.{Wrote, wrote_nothing, wrote_more, wrote_front, wrote_all}
 use Rattle.run_report.proofs.Rests.{joined-append}
 
-
 abbrev journal_text : RunRecord → List ℕ
 journal_text r = joined (journal_lines r.labels 1 r.journal)
 

@@ -1,22 +1,21 @@
-use Rattle.std.proofs.Common.{◌≡◌, ◌≤◌, ◌<◌, ◌+◌, ◌-◌, ℕ, zero, suc, Bool, true, false, List, [], ◌∷◌, ◌++◌, length, drop, refl, sym, ap, ◌∙◌, subst, arith, append_assoc, Some, None, Ok, Err, nat_eq, add-zero, length-append}
-use Rattle.std.specs.Prelude.{Option, Result, fold, map, nat_lt}
+use Rattle.std.proofs.Common.{◌≡◌, ◌≤◌, ◌<◌, ◌+◌, ◌-◌, ℕ, zero, suc, false, List, [], ◌∷◌, ◌++◌, length, drop, refl, sym, ap, ◌∙◌, arith, append_assoc, Ok, Err, nat_eq, add-zero, length-append}
+use Rattle.std.specs.Prelude.{Option, Result}
 use Rattle.std.specs.List.{flat_map}
 use Rattle.std.proofs.lemmas.List.{append-nil}
 use Rattle.std.proofs.lemmas.Bool.{ne_eqb}
 use Rattle.std.proofs.lemmas.Grind.{fold-append, flat_map-append}
-use Rattle.text_spec.specs.Texts.{TextLine, lines_from, whole_line, whole_lines, is_space}
+use Rattle.text_spec.specs.Texts.{TextLine, whole_line, whole_lines, is_space}
 use Rattle.rule_text.proofs.WholeLines.{whole_of_lines}
 use Rattle.text_spec.specs.Names.{with_name, with_names, predefined}
 use Rattle.rule_text.specs.declared.part.Part.{Part}
 use Rattle.rule_text.specs.Parts.{lines_of, words_of, end_of, first_line, as_line}
 use Rattle.script_spec.specs.declared.ScriptFault.{ScriptFault}
 use Rattle.script_spec.specs.declared.ScriptFault.TheVariants.{Malformed, TooLarge, Memory}
-use Rattle.script_spec.specs.Grammar.{ScriptLine, Item, Known, item_of, items, is_skipped, spaced_words, text_count, item_fault, known_call, known_after, known_first, calls_of, put_first, unless_fault, table_of, labels_of, first_of, most_bytes, most_labels}
+use Rattle.script_spec.specs.Grammar.{ScriptLine, Item, Known, item_of, items, is_skipped, text_count, item_fault, known_call, known_after, known_first, calls_of, put_first, unless_fault, table_of, labels_of, most_labels}
 use Rattle.script_text.specs.declared.reading.Draft.{Draft}
 use Rattle.script_text.specs.declared.reading.Place.{Place}
 use Rattle.script_text.specs.declared.reading.Found.{Found}
-use Rattle.script_text.specs.Lines.{call_seen}
-use Rattle.script_text.specs.Scripts.{Fails, HasFault, calls_seen, known_of, item_found, IsItemRead, IsWhole, words_fault, labels_fault}
+use Rattle.script_text.specs.Scripts.{Fails, HasFault, calls_seen, known_of, item_found, IsItemRead}
 
 -- calls that stand before those that are read
 abbrev pub put_all : List ScriptLine → Result (List ScriptLine) ScriptFault → Result (List ScriptLine) ScriptFault

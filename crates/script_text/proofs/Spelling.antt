@@ -1,5 +1,5 @@
-use Rattle.std.proofs.Common.{◌≡◌, ◌≤◌, ◌+◌, ℕ, Bool, true, false, List, [], ◌∷◌, refl, sym, ap, ◌∙◌, subst, arith, Some, None, length}
-use Rattle.std.specs.Prelude.{Option, is_ok, is_none, ◌&&◌}
+use Rattle.std.proofs.Common.{◌≡◌, ◌≤◌, ◌+◌, ℕ, Bool, true, false, List, [], ◌∷◌, refl, sym, ap, ◌∙◌, subst, arith, Some, None}
+use Rattle.std.specs.Prelude.{Option, is_none, ◌&&◌}
 use Rattle.smack_base.specs.Labels.{label_fault, is_label}
 use Rattle.smack_base.specs.declared.label.LabelFault.{LabelFault}
 use Rattle.text_spec.specs.Texts.{Placed, is_space}
@@ -7,8 +7,8 @@ use Rattle.rule_text.specs.declared.part.Part.{Part}
 use Rattle.rule_text.specs.Parts.{placed, lines_of, words_of, end_of}
 use Rattle.script_spec.specs.declared.Verb.{Verb}
 use Rattle.script_spec.specs.declared.Verb.TheVariants.{Write, Ask}
-use Rattle.script_spec.specs.declared.WordKind.TheVariants.{Label, Modes}
-use Rattle.script_spec.specs.Words.{verb_of, are_of_kinds, kinds_of, is_of_kind}
+use Rattle.script_spec.specs.declared.WordKind.TheVariants.{Modes}
+use Rattle.script_spec.specs.Words.{verb_of, are_of_kinds, kinds_of}
 use Rattle.script_spec.specs.Grammar.{ScriptLine, are_words, are_words_of, word_at, text_count, call_of, most_bytes}
 use Rattle.script_text.specs.HasLabels.{HasLabels, HasLabelsBy, IsRuleText}
 use Rattle.script_text.specs.Lines.{call_seen, call_by}

@@ -3,6 +3,7 @@ use Rattle.smack_base.specs.declared.path.PathFault.{PathFault}
 use Rattle.smack_base.specs.declared.path.PathFault.TheVariants.{TooDeep}
 use Rattle.smack_base.specs.Paths.{PathName, names_from, is_slash, name_fault, first_path_fault}
 
+-- the name with these bytes that begins at this place
 abbrev pub path_name : ℕ → List ℕ → PathName
 path_name at bytes = record { at = at; bytes = bytes }
 
@@ -17,14 +18,16 @@ path_names [] = []
 path_names (b ∷ []) = []
 path_names (b ∷ c ∷ bs) = names_from 1 (c ∷ bs)
 
+-- whether the first byte of a text is a slash
 abbrev pub begins_with_slash : List ℕ → Bool
 begins_with_slash [] = false
 begins_with_slash (b ∷ bs) = is_slash b
 
+-- the fault that one of some names has, or that they are too many
 abbrev pub or_too_deep : Option PathFault → List PathName → Option PathFault
 or_too_deep (Some f) names = Some f
 or_too_deep None names = if nat_lt 32 (length names) then Some TooDeep else None
 
--- the fault of some names: the first that one of them has, or that they are too many
+-- the fault of some names in their order
 abbrev pub names_fault : List PathName → Option PathFault
 names_fault names = or_too_deep (first_path_fault (map name_fault names)) names

@@ -1,4 +1,4 @@
-ghost use Rattle.std.specs.Prelude.{◌≡◌, ◌<◌, ◌≤◌, ◌+◌, ◌^◌, [], ◌∷◌, length, map, not, position, is_ok, IsOk, IfOk, IfErr, IfSome, Some, None, Ok, Err, ◌⊎◌};
+ghost use Rattle.std.specs.Prelude.{◌≡◌, ◌<◌, ◌+◌, ◌^◌, ◌⊎◌, length, map, not, position, is_ok, IsOk, IfOk, IfErr, IfSome};
 ghost use Rattle.std.specs.Result.{result_err};
 ghost use Rattle.smack_base.specs.Paths.{is_name_byte, is_dots, name_fault, path_of};
 ghost use Rattle.smack_base.specs.PathNames.{path_name, path_names, names_fault, begins_with_slash};
@@ -64,7 +64,7 @@ fn first_bad(name: &[u8]) -> Option<usize>
     name.iter().position(|b| !is_of_name(*b))
 }
 
-fn has_dots_alone(name: &[u8]) -> bool
+fn is_dot_name(name: &[u8]) -> bool
     ensures { result ≡ is_dots name.now }
 {
     match name {
@@ -85,7 +85,7 @@ fn fault_of_name(at: u32, name: &[u8]) -> Option<PathFault>
     if name.len() > LONGEST_NAME {
         return Some(PathFault::NameTooLong { at });
     }
-    if has_dots_alone(name) {
+    if is_dot_name(name) {
         return Some(PathFault::DotName { at });
     }
     match first_bad(name) {
@@ -159,8 +159,8 @@ pub fn is_path(bytes: &[u8]) -> bool
 }
 
 impl Path {
-    /// The path that these bytes are, or the first fault that they have; `Memory` comes for none
-    /// that is no path.
+    /// The path that these bytes are, or the first fault that they have. `Memory` comes only where
+    /// they are a path.
     pub fn read(alloc: Global, bytes: &[u8]) -> Result<Path, PathFault>
         requires { length bytes.now < 2 ^ 32 }
         ensures path { IfOk result (λ p. path_of bytes.now ≡ Ok p) }

@@ -86,12 +86,12 @@ ends_refused : (left left' : Option (List ℕ)) (s s' : ℕ) (taken : Option (Li
 ends_refused left left' s s' taken k k' bytes f read e some not_done not_read not_write not_spent not_usage = record {
   done = λ is. absurd (not_done is);
   refused = λ f' some' few is.
-    let same : f' ≡ f = status_same f f' some' (sym is) in
-    let P : ScriptFault → Type 0 = λ x. IsRefused left left' x in
-    subst P (sym same) (is_refused left left' bytes f read e);
+      let same : f' ≡ f = status_same f f' some' (sym is) in
+      let P : ScriptFault → Type 0 = λ x. IsRefused left left' x in
+      subst P (sym same) (is_refused left left' bytes f read e);
   large = λ is.
-    let same : Exceeds Bytes ≡ f = status_same f (Exceeds Bytes) (λ none. cc) (sym is) in
-    absurd (few_bytes bytes read.few (e ∙ ap (λ (x : ScriptFault). Err x) (sym same)));
+      let same : Exceeds Bytes ≡ f = status_same f (Exceeds Bytes) (λ none. cc) (sym is) in
+      absurd (few_bytes bytes read.few (e ∙ ap (λ (x : ScriptFault). Err x) (sym same)));
   exceeded = λ more. absurd (read.no_more more);
   read = λ is. absurd (not_read is);
   write = λ is. absurd (not_write is);
@@ -99,14 +99,14 @@ ends_refused left left' s s' taken k k' bytes f read e some not_done not_read no
   spent = λ is. absurd (not_spent is);
   unwritten = λ a b c. refl;
   complete = λ told lines calm parsed.
-    let same = same_bytes left left' bytes told read calm.told in
-    let both : Ok lines ≡ Err f = sym parsed ∙ ap parse same ∙ e in
-    cc;
+      let same = same_bytes left left' bytes told read calm.told in
+      let both : Ok lines ≡ Err f = sym parsed ∙ ap parse same ∙ e in
+      cc;
   refuses = λ told f' calm parsed.
-    let same = same_bytes left left' bytes told read calm.told in
-    let both : Err f' ≡ Err f = sym parsed ∙ ap parse same ∙ e in
-    let faults : f' ≡ f = cc in
-    inl (ap status_of (sym faults));
+      let same = same_bytes left left' bytes told read calm.told in
+      let both : Err f' ≡ Err f = sym parsed ∙ ap parse same ∙ e in
+      let faults : f' ≡ f = cc in
+      inl (ap status_of (sym faults));
   words = not_usage;
 }
 

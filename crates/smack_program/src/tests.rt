@@ -55,15 +55,29 @@ fn scripts_and_their_records(rt: HostRuntime) -> Result<(), Fail> {
 
 #[test]
 fn bad_lines_and_too_many_bytes(rt: HostRuntime) -> Result<(), Fail> {
-    let rows = [("init frob\n", 1), ("\n# c\ninit ask A B r\ninit ask A B z", 4), ("init write load2 1\nA B z\n", 1)];
+    let rows = [
+        ("init frob\n", 1),
+        ("\n# c\ninit ask A B r\ninit ask A B z", 4),
+        ("init write load2 1\nA B z\n", 1),
+    ];
     for (script, line) in rows {
-        let status = Status::Malformed { line, cause: Cause::NotBuilt };
+        let status = Status::Malformed {
+            line,
+            cause: Cause::NotBuilt,
+        };
         assert!(rt; replays(&rt, script.as_bytes(), status, b"")?);
     }
     let bytes = vec![in rt.alloc(); b'#'; 65_537]?;
     let nothing = b"smack 1\ntask 0 init\nend 0 0 0\n";
     assert!(rt; replays(&rt, &bytes.as_slice()[..65_536], Status::Done, nothing)?);
-    assert!(rt; replays(&rt, bytes.as_slice(), Status::TooLarge { what: What::Bytes }, b"")?);
+    assert!(rt;
+        replays(
+            &rt,
+            bytes.as_slice(),
+            Status::TooLarge { what: What::Bytes },
+            b""
+        )?
+    );
     Ok(())
 }
 
@@ -96,7 +110,12 @@ fn words_and_faults(rt: HostRuntime) -> Result<(), Fail> {
         (["replay"].as_slice(), (1, 0), Status::ReadFault, b""),
         (["replay"].as_slice(), (2, 0), Status::ReadFault, b""),
         (["replay"].as_slice(), (0, 1), Status::WriteFault, b""),
-        (["replay"].as_slice(), (0, 2), Status::WriteFault, b"smack 1\n"),
+        (
+            ["replay"].as_slice(),
+            (0, 2),
+            Status::WriteFault,
+            b"smack 1\n",
+        ),
     ];
     for (words, fails, status, text) in rows {
         assert!(rt; ends(&rt, words, fails, status, text)?);
@@ -108,12 +127,30 @@ fn words_and_faults(rt: HostRuntime) -> Result<(), Fail> {
 fn what_is_printed_of_a_status(rt: HostRuntime) -> Result<(), Fail> {
     let rows = [
         (Status::Usage, "usage", 2),
-        (Status::Malformed { line: 3, cause: Cause::NotBuilt }, "line 3: not-built", 3),
-        (Status::Malformed { line: 12, cause: Cause::Word { k: 4 } }, "line 12: word 4", 3),
+        (
+            Status::Malformed {
+                line: 3,
+                cause: Cause::NotBuilt,
+            },
+            "line 3: not-built",
+            3,
+        ),
+        (
+            Status::Malformed {
+                line: 12,
+                cause: Cause::Word { k: 4 },
+            },
+            "line 12: word 4",
+            3,
+        ),
         (Status::ReadFault, "read fault", 4),
         (Status::WriteFault, "write fault", 5),
         (Status::OutOfMemory, "out of memory", 6),
-        (Status::TooLarge { what: What::Bytes }, "too large: bytes", 7),
+        (
+            Status::TooLarge { what: What::Bytes },
+            "too large: bytes",
+            7,
+        ),
     ];
     for (status, text, code) in rows {
         assert!(rt; status.to_string(rt.alloc())?.as_str() == text);

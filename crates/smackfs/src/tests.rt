@@ -2,6 +2,7 @@ use crate::{Compiled, Refusal, TextFault, compile};
 use label_table::Labels;
 use rule_text::{BadLine, LineFault};
 use smack_base::{Label, LabelId, Modes, RuleOp};
+use std::alloc::Global;
 use std::process::Abort;
 use std::test::Fail;
 
@@ -17,42 +18,43 @@ fn labels(rt: &(impl Abort + AllocGlobal)) -> Result<Labels, Fail> {
     Ok(labels)
 }
 
+/// Whether a text of `load2` becomes these writes.
+fn becomes(labels: &Labels, alloc: Global, text: &[u8], ops: &[RuleOp]) -> bool {
+    match compile(alloc, labels, b"load2", text) {
+        Ok(Compiled::Rules(made)) => made.items() == ops,
+        _ => false,
+    }
+}
+
 #[test]
 fn writes_in_order(rt: HostRuntime) -> Result<(), Fail> {
     let labels = labels(&rt)?;
-    match compile(rt.alloc(), &labels, b"load2", b"A B rRx\n\n \tB\t_ -\n") {
-        Ok(Compiled::Rules(ops)) => {
-            let read_execute = Modes {
-                read: true,
-                execute: true,
-                ..Modes::NONE
-            };
-            assert_eq!(rt; ops.items().len(), 2);
-            assert_eq!(rt;
-                ops.items()[0],
-                RuleOp::Set {
-                    s: LabelId(5),
-                    o: LabelId(6),
-                    m: read_execute
-                }
-            );
-            assert_eq!(rt;
-                ops.items()[1],
-                RuleOp::Set {
-                    s: LabelId(6),
-                    o: LabelId::FLOOR,
-                    m: Modes::NONE
-                }
-            );
-        }
-        _ => assert!(rt; false),
-    }
+    let ops = [
+        RuleOp::Set {
+            s: LabelId(5),
+            o: LabelId(6),
+            m: Modes::of(b"rx"),
+        },
+        RuleOp::Set {
+            s: LabelId(6),
+            o: LabelId::FLOOR,
+            m: Modes::NONE,
+        },
+    ];
+    assert!(rt; becomes(&labels, rt.alloc(), b"A B rRx\n\n \tB\t_ -\n", &ops));
+    assert!(rt; becomes(&labels, rt.alloc(), b"", &[]));
     Ok(())
+}
+
+/// Whether a text that is written to a file is refused so.
+fn refuses(labels: &Labels, alloc: Global, file: &[u8], text: &[u8], refusal: Refusal) -> bool {
+    compile(alloc, labels, file, text).err() == Some(TextFault::Refused(refusal))
 }
 
 #[test]
 fn the_first_refusal(rt: HostRuntime) -> Result<(), Fail> {
     let labels = labels(&rt)?;
+    let bad = |line: u32, fault: LineFault| Refusal::BadLine(BadLine { line, fault });
     let rows = [
         (b"load3".as_slice(), b"A B".as_slice(), Refusal::NoSuchFile),
         (
@@ -63,31 +65,23 @@ fn the_first_refusal(rt: HostRuntime) -> Result<(), Fail> {
         (
             b"load2",
             b"A C r\nA B z\n",
-            Refusal::BadLine(BadLine {
-                line: 2,
-                fault: LineFault::Allow { at: 0 },
-            }),
+            bad(2, LineFault::Allow { at: 0 }),
         ),
-        (
-            b"load2",
-            b"A B\n",
-            Refusal::BadLine(BadLine {
-                line: 1,
-                fault: LineFault::Fields { n: 2 },
-            }),
-        ),
+        (b"load2", b"A B\n", bad(1, LineFault::Fields { n: 2 })),
     ];
     for (file, text, refusal) in rows {
-        assert_eq!(rt;
-            compile(rt.alloc(), &labels, file, text).err(),
-            Some(TextFault::Refused(refusal))
-        );
+        assert!(rt; refuses(&labels, rt.alloc(), file, text, refusal));
     }
     let long = vec![in rt.alloc(); b'\n'; 65_537]?;
-    assert!(rt; compile(rt.alloc(), &labels, b"load2", &long.as_slice()[..65_536]).is_ok());
-    assert_eq!(rt;
-        compile(rt.alloc(), &labels, b"load2", long.as_slice()).err(),
-        Some(TextFault::Refused(Refusal::TooLong))
+    assert!(rt; becomes(&labels, rt.alloc(), &long.as_slice()[..65_536], &[]));
+    assert!(rt;
+        refuses(
+            &labels,
+            rt.alloc(),
+            b"load2",
+            long.as_slice(),
+            Refusal::TooLong
+        )
     );
     Ok(())
 }

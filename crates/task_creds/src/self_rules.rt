@@ -1,4 +1,4 @@
-ghost use Rattle.std.specs.Prelude.{◌≡◌, ◌<◌, ◌≤◌, length, find, position, IfSome, IfOk, IfErr, OnOk, OnErr};
+ghost use Rattle.std.specs.Prelude.{◌≡◌, ◌<◌, ◌≤◌, length, position, IfSome, IfOk, IfErr, OnOk};
 ghost use Rattle.rules_spec.specs.Versions.{same_pair};
 ghost use Rattle.rules_spec.specs.Creds.{self_rule, with_self_rule, with_self_rules, most_self_rules};
 ghost use Rattle.task_creds.specs.Limits.{IsSelfFault};

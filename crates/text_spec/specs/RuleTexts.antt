@@ -1,10 +1,10 @@
-use Rattle.std.specs.Prelude.{ℕ, ◌+◌, ◌-◌, Bool, true, false, ◌&&◌, ◌||◌, not, ◌==◌, if◌then◌else◌, List, [], ◌∷◌, ◌++◌, Option, Some, None, Result, Ok, Err, length, take, drop, map, reverse, position, nat_lt}
+use Rattle.std.specs.Prelude.{ℕ, ◌+◌, Bool, false, ◌||◌, not, ◌==◌, if◌then◌else◌, List, [], ◌∷◌, ◌++◌, Option, Some, None, Result, Ok, Err, length, take, drop, map, reverse, position, nat_lt}
 use Rattle.std.specs.Option.{option_map}
 use Rattle.std.specs.List.{position_or_len}
 use Rattle.smack_base.specs.Labels.{label_fault}
 use Rattle.smack_base.specs.Modes.{bad_letter, is_letter, is_either_case, letter_b}
 use Rattle.smack_base.specs.declared.label.LabelFault.{LabelFault}
-use Rattle.smack_base.specs.declared.label.LabelFault.TheVariants.{Empty, TooLong}
+use Rattle.smack_base.specs.declared.label.LabelFault.TheVariants.{TooLong}
 use Rattle.text_spec.specs.declared.RuleForm.{RuleForm}
 use Rattle.text_spec.specs.declared.RuleForm.TheVariants.{Long, Short, Change}
 use Rattle.text_spec.specs.declared.LineFault.{LineFault}

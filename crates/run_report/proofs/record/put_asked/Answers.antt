@@ -13,8 +13,8 @@ returns-in-Err-clause-err g c =
 pub loop-one-preserved : goal.loop-one-preserved
 loop-one-preserved g c = record {
   wrote =
-    wrote_more _ _ _ _ _ _ _ c.loop-one.invariant.wrote
-    (items_rest (asked_lines c.args.labels.now) c.args.asked.now c.loop-one.one-index _ _ c.loop-one-test.true refl)
-    (rw (c.items.ensures, c.in-Ok.ensures) at c.in_default-put_lines.ensures.ok);
+      wrote_more _ _ _ _ _ _ _ c.loop-one.invariant.wrote
+      (items_rest (asked_lines c.args.labels.now) c.args.asked.now c.loop-one.one-index _ _ c.loop-one-test.true refl)
+      (rw (c.items.ensures, c.in-Ok.ensures) at c.in_default-put_lines.ensures.ok);
   later = omega (arith, c.put_lines.ensures.later);
 }

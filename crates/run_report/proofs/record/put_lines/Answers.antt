@@ -12,8 +12,8 @@ returns-in-Err-clause-err g c =
 pub loop-line-preserved : goal.loop-line-preserved
 loop-line-preserved g c = record {
   wrote =
-    wrote_more _ _ _ _ _ _ _ c.loop-line.invariant.wrote
-    (lines_rest c.args.lines.now c.loop-line.line-index c.line-item.result c.loop-line-test.true c.line-item.is)
-    (rw c.items.ensures at c.in_default.ensures.ok);
+      wrote_more _ _ _ _ _ _ _ c.loop-line.invariant.wrote
+      (lines_rest c.args.lines.now c.loop-line.line-index c.line-item.result c.loop-line-test.true c.line-item.is)
+      (rw c.items.ensures at c.in_default.ensures.ok);
   later = omega (arith, c.put_line.ensures.later);
 }

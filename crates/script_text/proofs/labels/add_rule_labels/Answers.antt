@@ -1,5 +1,4 @@
-use Rattle.std.proofs.Common.{ap, ◌∙◌, List, ◌∷◌}
-use Rattle.rule_text.specs.RuleAnswers.{seen, fields_of}
+use Rattle.rule_text.specs.RuleAnswers.{fields_of}
 use Rattle.script_spec.specs.Grammar.{most_labels}
 use Rattle.script_text.proofs.RuleLabels.{adds_many}
 use Rattle.script_text.proofs.labels.add_rule_labels.Goals as goal

@@ -1,4 +1,4 @@
-use Rattle.std.proofs.Common.{◌≡◌, ◌≤◌, length}
+use Rattle.std.proofs.Common.{◌≤◌, length}
 use Rattle.text_spec.specs.RuleTexts.{rules_of_text, all_good}
 use Rattle.text_spec.specs.declared.RuleForm.TheVariants.{Long}
 use Rattle.script_spec.specs.Grammar.{most_labels}
