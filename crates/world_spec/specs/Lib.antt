@@ -1,0 +1,4 @@
+pub mod Worlds
+pub mod Questions
+pub mod Steps
+pub mod Replays
