@@ -13,6 +13,7 @@ fn put_decimal(out: &mut Vec<u8>, n: u64) -> Result<(), AllocError>
     out.extend_from_slice(buffer.format(n).as_bytes())
 }
 
+/// A word of these bytes, behind a space.
 pub fn put_word(out: &mut Vec<u8>, text: &[u8]) -> Result<(), AllocError>
     ensures { OnOk result (out.new.items ≡ out.old.items ++ word text.now) }
 {
@@ -20,6 +21,7 @@ pub fn put_word(out: &mut Vec<u8>, text: &[u8]) -> Result<(), AllocError>
     out.extend_from_slice(text)
 }
 
+/// A decimal number.
 pub fn put_number(out: &mut Vec<u8>, n: u64) -> Result<(), AllocError>
     ensures { OnOk result (out.new.items ≡ out.old.items ++ number n) }
 {
@@ -38,12 +40,14 @@ pub fn put_label(out: &mut Vec<u8>, labels: &Labels, id: LabelId) -> Result<(), 
     }
 }
 
+/// A mode set, as its letters or a dash.
 pub fn put_modes(out: &mut Vec<u8>, m: Modes) -> Result<(), AllocError>
     ensures { OnOk result (out.new.items ≡ out.old.items ++ modes m) }
 {
     put_word(out, m.text().bytes())
 }
 
+/// A subject, an object and modes.
 pub fn put_triple(
     out: &mut Vec<u8>,
     labels: &Labels,
@@ -58,6 +62,7 @@ pub fn put_triple(
     put_modes(out, m)
 }
 
+/// A call: the number of its task, a dot, and its number.
 pub fn put_call_number(out: &mut Vec<u8>, task: u16, seq: u32) -> Result<(), AllocError>
     ensures { OnOk result (out.new.items ≡ out.old.items ++ call_number task seq) }
 {
@@ -67,6 +72,7 @@ pub fn put_call_number(out: &mut Vec<u8>, task: u16, seq: u32) -> Result<(), All
     put_decimal(out, u64::from(seq))
 }
 
+/// A rule version.
 pub fn put_version(out: &mut Vec<u8>, version: u32) -> Result<(), AllocError>
     ensures { OnOk result (out.new.items ≡ out.old.items ++ version_word version) }
 {

@@ -42,8 +42,8 @@ pub fn smack_main<S: Source, K: Sink>(
 ) -> Status
     ensures replays { AreReplay (map string_bytes words.now) → ReplayEnds (S.left source.old) (S.left source.new) (S.faults source.old) (S.faults source.new) (K.taken sink.old) (K.taken sink.new) (K.faults sink.old) (K.faults sink.new) result }
     ensures usage { (result ≡ Status.Usage) ↔ (¬ AreReplay (map string_bytes words.now)) }
-    ensures unread { result ≡ Status.Usage → S.left source.new ≡ S.left source.old }
-    ensures unwritten { result ≡ Status.Usage → K.taken sink.new ≡ K.taken sink.old }
+    ensures unread { result ≡ Status.Usage → source.new ≡ source.old }
+    ensures unwritten { result ≡ Status.Usage → sink.new ≡ sink.old }
 {
     if is_replay(words) {
         replay_main(alloc, source, sink)
