@@ -1,2 +1,5 @@
+pub mod Words
+pub mod Entries
 pub mod Show
+pub mod Calls
 pub mod Replays

@@ -1,47 +1,15 @@
-use Rattle.std.specs.Prelude.{ℕ, ◌+◌, if◌then◌else◌, List, [], ◌∷◌, ◌++◌, length, map, codes, decimal, slice_index_or}
+use Rattle.std.specs.Prelude.{ℕ, ◌+◌, List, [], ◌∷◌, ◌++◌, length, map, codes, slice_index_or}
 use Rattle.std.specs.List.{flat_map}
-use Rattle.smack_base.specs.declared.modes.Modes.{Modes}
-use Rattle.smack_base.specs.declared.ids.LabelId.{LabelId}
 use Rattle.smack_base.specs.declared.rule_op.RuleOp.{RuleOp}
 use Rattle.smack_base.specs.declared.rule_op.RuleOp.TheVariants.{Set, Change, Revoke, OnlyClear, OnlyAdd, Ambient, Ptrace, Logging}
-use Rattle.smack_base.specs.Modes.{letters_of}
 use Rattle.rules_spec.specs.declared.Batch.{Batch}
 use Rattle.rules_spec.specs.declared.Verdict.{Verdict}
 use Rattle.record_spec.specs.declared.AskedLine.{AskedLine}
 use Rattle.record_spec.specs.declared.AskedWhat.{AskedWhat}
 use Rattle.record_spec.specs.declared.AskedWhat.TheVariants.{Ask}
 use Rattle.record_spec.specs.declared.RunRecord.{RunRecord}
-
--- the words of a line, each behind a space
-abbrev pub word : List ℕ → List ℕ
-word text = codes " " ++ text
-
-abbrev pub number : ℕ → List ℕ
-number n = word (decimal n)
-
--- the text of a label
-abbrev pub name_at : List (List ℕ) → LabelId → List ℕ
-name_at labels id = slice_index_or labels id.0 []
-
-abbrev pub label : List (List ℕ) → LabelId → List ℕ
-label labels id = word (name_at labels id)
-
-abbrev pub modes : Modes → List ℕ
-modes m = word (letters_of m)
-
-abbrev pub feed : List ℕ
-feed = codes "\n"
-
--- the task and the number of a call
-abbrev pub call_number : ℕ → ℕ → List ℕ
-call_number task seq = word (decimal task ++ codes "." ++ decimal seq)
-
-abbrev pub version_word : ℕ → List ℕ
-version_word version = word (codes "v" ++ decimal version)
-
--- subject, object and modes
-abbrev pub triple : List (List ℕ) → LabelId → LabelId → Modes → List ℕ
-triple labels s o m = label labels s ++ label labels o ++ modes m
+use Rattle.record_spec.specs.Words.{word, number, label, modes, feed, call_number, version_word, triple, decision}
+use Rattle.record_spec.specs.Entries.{entry_lines}
 
 -- a rule write: its name and its words
 abbrev pub op_words : List (List ℕ) → RuleOp → List ℕ
@@ -65,16 +33,11 @@ batch_head version b =
 abbrev pub batch_lines : List (List ℕ) → ℕ → Batch → List (List ℕ)
 batch_lines labels version b = batch_head version b ∷ map (op_line labels) b.ops
 
--- the lines of batches, the first of which makes this version
-abbrev pub journal_lines : List (List ℕ) → ℕ → List Batch → List (List ℕ)
-journal_lines labels version [] = []
-journal_lines labels version (b ∷ bs) = batch_lines labels version b ++ journal_lines labels (version + 1) bs
-
 abbrev pub asked_head : AskedLine → List ℕ
 asked_head a = codes "q" ++ call_number a.task a.seq ++ version_word a.version
 
 abbrev pub answer_line : Verdict → List ℕ
-answer_line v = codes "=" ++ (if v.allowed then codes " allow" else codes " deny") ++ number v.case ++ feed
+answer_line v = codes "=" ++ decision v ++ feed
 
 abbrev pub what_lines : List (List ℕ) → List ℕ → AskedWhat → List (List ℕ)
 what_lines labels head (Ask v) =
@@ -84,6 +47,21 @@ what_lines labels head (Ask v) =
 abbrev pub asked_lines : List (List ℕ) → AskedLine → List (List ℕ)
 asked_lines labels a = what_lines labels (asked_head a) a.what
 
+-- the lines of some items, each by its place, of which the first has this one
+abbrev pub lines_in_turn : {X : Type 0} → (ℕ → X → List (List ℕ)) → ℕ → List X → List (List ℕ)
+lines_in_turn f place [] = []
+lines_in_turn f place (x ∷ xs) = f place x ++ lines_in_turn f (place + 1) xs
+
+-- batches by the version that each makes, object calls by their place among them, and asked lines
+abbrev pub journal_lines : RunRecord → List (List ℕ)
+journal_lines r = lines_in_turn (batch_lines r.labels) 1 r.journal
+
+abbrev pub history_lines : RunRecord → List (List ℕ)
+history_lines r = lines_in_turn (entry_lines r.labels) 1 r.history
+
+abbrev pub question_lines : RunRecord → List (List ℕ)
+question_lines r = lines_in_turn (λ place a. asked_lines r.labels a) 1 r.asked
+
 abbrev pub first_line : List ℕ
 first_line = codes "smack 1\n"
 
@@ -92,7 +70,7 @@ task_line task name = codes "task" ++ number task ++ word name ++ feed
 
 -- the numbers of batches, of object calls and of asked lines
 abbrev pub end_line : RunRecord → List ℕ
-end_line r = codes "end" ++ number (length r.journal) ++ number 0 ++ number (length r.asked) ++ feed
+end_line r = codes "end" ++ number (length r.journal) ++ number (length r.history) ++ number (length r.asked) ++ feed
 
 -- the format, and the tasks
 abbrev pub head_lines : RunRecord → List (List ℕ)
@@ -101,7 +79,7 @@ head_lines r = first_line ∷ task_line 0 (slice_index_or r.names 0 []) ∷ []
 -- the lines of a record, each with its line feed
 abbrev pub record_lines : RunRecord → List (List ℕ)
 record_lines r =
-    head_lines r ++ journal_lines r.labels 1 r.journal ++ flat_map (asked_lines r.labels) r.asked ++ end_line r ∷ []
+    head_lines r ++ journal_lines r ++ history_lines r ++ question_lines r ++ end_line r ∷ []
 
 -- all the bytes of some lines
 abbrev pub joined : List (List ℕ) → List ℕ

@@ -1,13 +1,16 @@
 //! What records mean: all that a run leaves, its text, and the record that the replay of a script
 //! leaves. Plain data; the definitions stand in `specs/`.
 //!
-//! `Show` is the text of a record, line by line. `Replays` takes the calls of a script in written
-//! order, each judged at the newest version, and says which record that makes.
+//! `Show` is the text of a record, line by line, and `Entries` that of an object call with its
+//! checks, its audit lines and its reply. `Calls` says which object call a line of a script makes.
+//! `Replays` takes the lines of a script in written order, each judged at the newest version, and
+//! says which record that makes.
 #![tactic(auto)]
 
 use label_table::Labels;
 use rules_spec::{Journal, Verdict};
 use smack_base::{NameList, Sequence};
+use world_spec::Trail;
 
 /// What a line that is no object call asked, with its answer.
 #[derive(Debug, Drop)]
@@ -41,6 +44,8 @@ pub struct RunRecord {
     pub names: NameList,
     /// The published batches.
     pub journal: Journal,
+    /// The object calls.
+    pub history: Trail,
     /// The asked lines.
     pub asked: AskedLines,
 }

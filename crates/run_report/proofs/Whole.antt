@@ -1,54 +1,72 @@
 use Rattle.std.proofs.Common.{◌≡◌, ℕ, List, [], ◌∷◌, ◌++◌, sym, ap, ◌∙◌, refl, append_assoc}
 use Rattle.std.specs.Prelude.{Option}
-use Rattle.std.specs.List.{flat_map}
-use Rattle.std.proofs.lemmas.List.{append-nil}
 use Rattle.outside.specs.Sink.{Appends, AppendsFront}
 use Rattle.record_spec.specs.declared.RunRecord.{RunRecord}
-use Rattle.record_spec.specs.Show.{joined, head_lines, journal_lines, asked_lines, end_line, show}
+use Rattle.record_spec.specs.Show.{joined, head_lines, journal_lines, history_lines, question_lines, end_line, show}
 use Rattle.run_report.proofs.Wrote.{Wrote, wrote_nothing, wrote_more, wrote_front, wrote_all}
 use Rattle.run_report.proofs.Rests.{joined-append}
 
+abbrev head_text : RunRecord → List ℕ
+head_text r = joined (head_lines r)
+
 abbrev journal_text : RunRecord → List ℕ
-journal_text r = joined (journal_lines r.labels 1 r.journal)
+journal_text r = joined (journal_lines r)
+
+abbrev history_text : RunRecord → List ℕ
+history_text r = joined (history_lines r)
 
 abbrev asked_text : RunRecord → List ℕ
-asked_text r = joined (flat_map (asked_lines r.labels) r.asked)
+asked_text r = joined (question_lines r)
+
+-- what is to be written behind each part
+abbrev after_asked : RunRecord → List ℕ
+after_asked r = end_line r ++ []
+
+abbrev after_history : RunRecord → List ℕ
+after_history r = asked_text r ++ after_asked r
+
+abbrev after_journal : RunRecord → List ℕ
+after_journal r = history_text r ++ after_history r
+
+abbrev after_head : RunRecord → List ℕ
+after_head r = journal_text r ++ after_journal r
 
 -- the parts of a text, in the order in which they are written
-parts : (h j q : List (List ℕ)) (e : List ℕ) → joined (h ++ j ++ q ++ e ∷ []) ≡ joined h ++ (joined j ++ (joined q ++ (e ++ [])))
-parts h j q e = simp (append_assoc, joined-append) refl
+parts : (h j e q : List (List ℕ)) (end : List ℕ)
+    → joined (h ++ j ++ e ++ q ++ end ∷ []) ≡ joined h ++ (joined j ++ (joined e ++ (joined q ++ (end ++ []))))
+parts h j e q end = simp (append_assoc, joined-append) refl
 
-show_parts : (r : RunRecord) → show r ≡ joined (head_lines r) ++ (journal_text r ++ (asked_text r ++ (end_line r ++ [])))
-show_parts r = parts (head_lines r) (journal_lines r.labels 1 r.journal) (flat_map (asked_lines r.labels) r.asked) (end_line r)
+show_parts : (r : RunRecord) → show r ≡ head_text r ++ after_head r
+show_parts r = parts (head_lines r) (journal_lines r) (history_lines r) (question_lines r) (end_line r)
 
-pub head_ends : (r : RunRecord) (a b : Option (List ℕ)) → AppendsFront a b (joined (head_lines r)) → AppendsFront a b (show r)
+-- the writing ended within a part
+pub head_ends : (r : RunRecord) (a b : Option (List ℕ)) → AppendsFront a b (head_text r) → AppendsFront a b (show r)
 head_ends r a b front = wrote_front a a b _ _ _ _ (wrote_nothing a (show r)) (show_parts r) front
 
-wrote_head : (r : RunRecord) (a b : Option (List ℕ)) → Appends a b (joined (head_lines r))
-    → Wrote a b (show r) (journal_text r ++ (asked_text r ++ (end_line r ++ [])))
+pub journal_ends : (r : RunRecord) (a b c : Option (List ℕ)) → Wrote a b (show r) (after_head r) → AppendsFront b c (journal_text r) → AppendsFront a c (show r)
+journal_ends r a b c w front = wrote_front a b c _ _ _ _ w refl front
+
+pub history_ends : (r : RunRecord) (a b c : Option (List ℕ)) → Wrote a b (show r) (after_journal r) → AppendsFront b c (history_text r) → AppendsFront a c (show r)
+history_ends r a b c w front = wrote_front a b c _ _ _ _ w refl front
+
+pub asked_ends : (r : RunRecord) (a b c : Option (List ℕ)) → Wrote a b (show r) (after_history r) → AppendsFront b c (asked_text r) → AppendsFront a c (show r)
+asked_ends r a b c w front = wrote_front a b c _ _ _ _ w refl front
+
+pub end_ends : (r : RunRecord) (a b c : Option (List ℕ)) → Wrote a b (show r) (after_asked r) → AppendsFront b c (end_line r) → AppendsFront a c (show r)
+end_ends r a b c w front = wrote_front a b c _ _ _ _ w refl front
+
+-- a part was written
+pub wrote_head : (r : RunRecord) (a b : Option (List ℕ)) → Appends a b (head_text r) → Wrote a b (show r) (after_head r)
 wrote_head r a b head = wrote_more a a b _ _ _ _ (wrote_nothing a (show r)) (show_parts r) head
 
-pub journal_ends : (r : RunRecord) (a b c : Option (List ℕ)) → Appends a b (joined (head_lines r)) → AppendsFront b c (journal_text r)
-    → AppendsFront a c (show r)
-journal_ends r a b c head front = wrote_front a b c _ _ _ _ (wrote_head r a b head) refl front
+pub wrote_journal : (r : RunRecord) (a b c : Option (List ℕ)) → Wrote a b (show r) (after_head r) → Appends b c (journal_text r) → Wrote a c (show r) (after_journal r)
+wrote_journal r a b c w journal = wrote_more a b c _ _ _ _ w refl journal
 
-wrote_journal : (r : RunRecord) (a b c : Option (List ℕ)) → Appends a b (joined (head_lines r)) → Appends b c (journal_text r)
-    → Wrote a c (show r) (asked_text r ++ (end_line r ++ []))
-wrote_journal r a b c head journal = wrote_more a b c _ _ _ _ (wrote_head r a b head) refl journal
+pub wrote_history : (r : RunRecord) (a b c : Option (List ℕ)) → Wrote a b (show r) (after_journal r) → Appends b c (history_text r) → Wrote a c (show r) (after_history r)
+wrote_history r a b c w history = wrote_more a b c _ _ _ _ w refl history
 
-pub asked_ends : (r : RunRecord) (a b c d : Option (List ℕ)) → Appends a b (joined (head_lines r)) → Appends b c (journal_text r)
-    → AppendsFront c d (asked_text r) → AppendsFront a d (show r)
-asked_ends r a b c d head journal front = wrote_front a c d _ _ _ _ (wrote_journal r a b c head journal) refl front
+pub wrote_asked : (r : RunRecord) (a b c : Option (List ℕ)) → Wrote a b (show r) (after_history r) → Appends b c (asked_text r) → Wrote a c (show r) (after_asked r)
+wrote_asked r a b c w asked = wrote_more a b c _ _ _ _ w refl asked
 
-wrote_asked : (r : RunRecord) (a b c d : Option (List ℕ)) → Appends a b (joined (head_lines r)) → Appends b c (journal_text r)
-    → Appends c d (asked_text r) → Wrote a d (show r) (end_line r ++ [])
-wrote_asked r a b c d head journal asked = wrote_more a c d _ _ _ _ (wrote_journal r a b c head journal) refl asked
-
-pub end_ends : (r : RunRecord) (a b c d e : Option (List ℕ)) → Appends a b (joined (head_lines r)) → Appends b c (journal_text r)
-    → Appends c d (asked_text r) → AppendsFront d e (end_line r) → AppendsFront a e (show r)
-end_ends r a b c d e head journal asked front = wrote_front a d e _ _ _ _ (wrote_asked r a b c d head journal asked) refl front
-
-pub all_written : (r : RunRecord) (a b c d e : Option (List ℕ)) → Appends a b (joined (head_lines r)) → Appends b c (journal_text r)
-    → Appends c d (asked_text r) → Appends d e (end_line r) → Appends a e (show r)
-all_written r a b c d e head journal asked end =
-    wrote_all a e (show r) (wrote_more a d e _ _ _ _ (wrote_asked r a b c d head journal asked) refl end)
+pub all_written : (r : RunRecord) (a b c : Option (List ℕ)) → Wrote a b (show r) (after_asked r) → Appends b c (end_line r) → Appends a c (show r)
+all_written r a b c w end = wrote_all a c (show r) (wrote_more a b c _ _ _ _ w refl end)

@@ -8,8 +8,11 @@
 //! by itoa.
 #![tactic(auto)]
 
+mod calls;
+mod entries;
 mod fault;
 mod lines;
+mod printed;
 mod record;
 mod words;
 

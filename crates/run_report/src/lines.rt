@@ -1,8 +1,10 @@
 ghost use Rattle.std.specs.Prelude.{◌≡◌, ◌<◌, ◌^◌, ◌++◌, ◌∷◌, [], length, codes, slice_index_or, IfOk, OnOk};
-ghost use Rattle.record_spec.specs.Show.{op_words, op_line as op_text, batch_head, batch_lines as lines_of_batch, asked_head, answer_line as answer_text, asked_lines as lines_of_asked, triple, feed, task_line as task_text, head_lines as head_of_record, end_line as end_text};
+ghost use Rattle.record_spec.specs.Words.{triple, feed};
+ghost use Rattle.record_spec.specs.Show.{op_words, op_line as op_text, batch_head, batch_lines as lines_of_batch, asked_head, answer_line as answer_text, asked_lines as lines_of_asked, task_line as task_text, head_lines as head_of_record, end_line as end_text};
 
 use crate::words::{
-    put_call_number, put_label, put_modes, put_number, put_triple, put_version, put_word,
+    put_call_number, put_decision, put_label, put_modes, put_number, put_triple, put_version,
+    put_word,
 };
 use label_table::Labels;
 use record_spec::{AskedLine, AskedWhat, RunRecord};
@@ -88,12 +90,7 @@ fn answer_line(alloc: Global, v: &Verdict) -> Result<Bytes, AllocError>
     ensures { IfOk result (λ line. line ≡ answer_text v.now) }
 {
     let mut out = Vec::from_slice(alloc, b"=")?;
-    if v.allowed {
-        out.extend_from_slice(b" allow")?;
-    } else {
-        out.extend_from_slice(b" deny")?;
-    }
-    put_number(&mut out, u64::from(v.case))?;
+    put_decision(&mut out, v)?;
     out.extend_from_slice(b"\n")?;
     Ok(Bytes::from_vec(out))
 }
@@ -169,7 +166,7 @@ pub fn end_line(alloc: Global, r: &RunRecord) -> Result<Bytes, AllocError>
 {
     let mut out = Vec::from_slice(alloc, b"end")?;
     put_number(&mut out, r.journal.items().len() as u64)?;
-    put_number(&mut out, 0)?;
+    put_number(&mut out, r.history.items().len() as u64)?;
     put_number(&mut out, r.asked.items().len() as u64)?;
     out.extend_from_slice(b"\n")?;
     Ok(Bytes::from_vec(out))

@@ -1,15 +1,14 @@
 ghost use Rattle.std.specs.Prelude.{◌≡◌, ◌≤◌, Err, OnOk, OnErr};
-ghost use Rattle.std.specs.List.{flat_map};
 ghost use Rattle.outside.specs.Faults.{Rose};
 ghost use Rattle.outside.specs.Sink.{Appends, AppendsFront};
-ghost use Rattle.record_spec.specs.Show.{joined, journal_lines, asked_lines as lines_of_asked, head_lines as lines_of_head, end_line as end_text, show};
+ghost use Rattle.record_spec.specs.Show.{joined, lines_in_turn, head_lines as lines_of_head, end_line as end_text, show};
 
 use crate::fault::ReportFault;
-use crate::lines::{asked_lines, batch_lines, end_line, head_lines};
+use crate::lines::{end_line, head_lines};
+use crate::printed::Printed;
 use label_table::Labels;
 use outside::{Sink, SinkFault, offer};
-use record_spec::{AskedLine, RunRecord};
-use rules_spec::Batch;
+use record_spec::RunRecord;
 use smack_base::Bytes;
 use std::alloc::Global;
 
@@ -42,43 +41,20 @@ fn put_lines<K: Sink>(sink: &mut K, lines: &[Bytes]) -> Result<(), ReportFault>
     Ok(())
 }
 
-/// Writes the lines of batches, of which the first makes version 1.
-fn put_journal<K: Sink>(
+/// Writes the lines of items, of which the first has the place 1.
+fn put_items<K: Sink, T: Printed>(
     sink: &mut K,
     alloc: Global,
     labels: &Labels,
-    journal: &[Batch],
+    items: &[T],
 ) -> Result<(), ReportFault>
-    ensures ok { OnOk result (Appends (K.taken sink.old) (K.taken sink.new) (joined (journal_lines labels.now 1 journal.now))) }
-    ensures err { OnErr result (AppendsFront (K.taken sink.old) (K.taken sink.new) (joined (journal_lines labels.now 1 journal.now))) }
+    ensures ok { OnOk result (Appends (K.taken sink.old) (K.taken sink.new) (joined (lines_in_turn (T.lines_of labels.now) 1 items.now))) }
+    ensures err { OnErr result (AppendsFront (K.taken sink.old) (K.taken sink.new) (joined (lines_in_turn (T.lines_of labels.now) 1 items.now))) }
     ensures later { K.faults sink.old ≤ K.faults sink.new }
     ensures failed { result ≡ Err ReportFault.Failed → Rose (K.faults sink.old) (K.faults sink.new) }
 {
-    for (i, batch) in journal.iter().enumerate() {
-        let Ok(lines) = batch_lines(alloc, labels, i as u64 + 1, batch) else {
-            return Err(ReportFault::Memory);
-        };
-        if let Err(fault) = put_lines(sink, lines.items()) {
-            return Err(fault);
-        }
-    }
-    Ok(())
-}
-
-/// Writes the asked lines and their answers.
-fn put_asked<K: Sink>(
-    sink: &mut K,
-    alloc: Global,
-    labels: &Labels,
-    asked: &[AskedLine],
-) -> Result<(), ReportFault>
-    ensures ok { OnOk result (Appends (K.taken sink.old) (K.taken sink.new) (joined (flat_map (lines_of_asked labels.now) asked.now))) }
-    ensures err { OnErr result (AppendsFront (K.taken sink.old) (K.taken sink.new) (joined (flat_map (lines_of_asked labels.now) asked.now))) }
-    ensures later { K.faults sink.old ≤ K.faults sink.new }
-    ensures failed { result ≡ Err ReportFault.Failed → Rose (K.faults sink.old) (K.faults sink.new) }
-{
-    for one in asked {
-        let Ok(lines) = asked_lines(alloc, labels, one) else {
+    for (i, item) in items.iter().enumerate() {
+        let Ok(lines) = item.lines(alloc, labels, i as u64 + 1) else {
             return Err(ReportFault::Memory);
         };
         if let Err(fault) = put_lines(sink, lines.items()) {
@@ -125,10 +101,13 @@ pub fn put_record<K: Sink>(alloc: Global, r: &RunRecord, sink: &mut K) -> Result
     if let Err(fault) = put_head(sink, alloc, r) {
         return Err(fault);
     }
-    if let Err(fault) = put_journal(sink, alloc, &r.labels, r.journal.items()) {
+    if let Err(fault) = put_items(sink, alloc, &r.labels, r.journal.items()) {
         return Err(fault);
     }
-    if let Err(fault) = put_asked(sink, alloc, &r.labels, r.asked.items()) {
+    if let Err(fault) = put_items(sink, alloc, &r.labels, r.history.items()) {
+        return Err(fault);
+    }
+    if let Err(fault) = put_items(sink, alloc, &r.labels, r.asked.items()) {
         return Err(fault);
     }
     if let Err(fault) = put_end(sink, alloc, r) {

@@ -1,12 +1,14 @@
-ghost use Rattle.std.specs.Prelude.{◌≡◌, ◌++◌, OnOk, decimal};
-ghost use Rattle.record_spec.specs.Show.{word, number, label, modes, call_number, version_word, triple};
+ghost use Rattle.std.specs.Prelude.{◌≡◌, ◌++◌, [], OnOk, decimal};
+ghost use Rattle.record_spec.specs.Words.{word, number, name_at, label, modes, call_number, version_word, triple, over_words, decision};
 
 use itoa::Buffer;
 use label_table::Labels;
+use rules_spec::Verdict;
 use smack_base::{LabelId, Modes};
 use std::alloc::AllocError;
 
-fn put_decimal(out: &mut Vec<u8>, n: u64) -> Result<(), AllocError>
+/// A decimal number, with no space before it.
+pub fn put_decimal(out: &mut Vec<u8>, n: u64) -> Result<(), AllocError>
     ensures { OnOk result (out.new.items ≡ out.old.items ++ decimal n) }
 {
     let mut buffer = Buffer::new();
@@ -29,15 +31,22 @@ pub fn put_number(out: &mut Vec<u8>, n: u64) -> Result<(), AllocError>
     put_decimal(out, n)
 }
 
+/// The text of a label; no bytes where the table does not have the id.
+pub fn name_of(labels: &Labels, id: LabelId) -> &[u8]
+    ensures { result.now ≡ name_at labels.now id }
+{
+    if u32::from(id.0) < labels.len() {
+        labels.name(id)
+    } else {
+        b""
+    }
+}
+
 /// A label; a word of no bytes where the table does not have the id.
 pub fn put_label(out: &mut Vec<u8>, labels: &Labels, id: LabelId) -> Result<(), AllocError>
     ensures { OnOk result (out.new.items ≡ out.old.items ++ label labels.now id) }
 {
-    if u32::from(id.0) < labels.len() {
-        put_word(out, labels.name(id))
-    } else {
-        put_word(out, b"")
-    }
+    put_word(out, name_of(labels, id))
 }
 
 /// A mode set, as its letters or a dash.
@@ -78,4 +87,28 @@ pub fn put_version(out: &mut Vec<u8>, version: u32) -> Result<(), AllocError>
 {
     out.extend_from_slice(b" v")?;
     put_decimal(out, u64::from(version))
+}
+
+/// The denying case that an answer went over, where there is one.
+fn put_over(out: &mut Vec<u8>, case: u8) -> Result<(), AllocError>
+    ensures { OnOk result (out.new.items ≡ out.old.items ++ over_words case) }
+{
+    if case == 0 {
+        return Ok(());
+    }
+    out.extend_from_slice(b" over")?;
+    put_number(out, u64::from(case))
+}
+
+/// The answer to a question, and the case that decided it.
+pub fn put_decision(out: &mut Vec<u8>, v: &Verdict) -> Result<(), AllocError>
+    ensures { OnOk result (out.new.items ≡ out.old.items ++ decision v.now) }
+{
+    if v.allowed {
+        out.extend_from_slice(b" allow")?;
+    } else {
+        out.extend_from_slice(b" deny")?;
+    }
+    put_number(out, u64::from(v.case))?;
+    put_over(out, v.over)
 }

@@ -3,10 +3,11 @@
 //! `replay` takes the calls of a script in written order, on one thread, each judged at the newest
 //! rule version. Its record is `replayed` of `record_spec`, one function of the script.
 //!
-//! Stands on script_text for the calls, on smackfs for rule texts, and on rule_fold and
-//! smack_decide for the answers.
+//! Stands on script_text for the calls, on smackfs for rule texts, on rule_fold and smack_decide
+//! for the answers to questions, and on smack_world for the steps of object calls.
 #![tactic(auto)]
 
+mod calls;
 mod replaying;
 mod runner;
 

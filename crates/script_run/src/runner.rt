@@ -1,25 +1,32 @@
 ghost use Rattle.std.specs.Prelude.{◌≡◌, ◌<◌, ◌+◌, ◌-◌, ◌^◌, ◌++◌, ◌∷◌, [], Ok, Some, length, IfOk, OnOk};
+ghost use Rattle.std.specs.Option.{option_map};
 ghost use Rattle.text_spec.specs.Names.{id_of};
 ghost use Rattle.script_spec.specs.Files.{compiled};
 ghost use Rattle.script_spec.specs.declared.Compiled.TheVariants.{Rules};
 ghost use Rattle.script_text.specs.Lines.{call_seen};
-ghost use Rattle.record_spec.specs.Replays.{modes_in as modes_of_word, after_line, published, answered, run_first};
+ghost use Rattle.record_spec.specs.Calls.{task_call as task_call_of, tree_call as tree_call_of};
+ghost use Rattle.record_spec.specs.Replays.{modes_in as modes_of_word, after_line, published, answered, entered, run_first};
+ghost use Rattle.smack_world.specs.Seen.{most_entries};
 ghost use Rattle.script_run.specs.Running.{seen, IsRunning, Runs};
 
+use crate::calls::{task_call, tree_call};
 use label_table::Labels;
 use record_spec::{AskedLine, AskedLines, AskedWhat};
 use rule_fold::{Batch, Journal, RuleIndex};
-use script_text::{Line, Verb, verb_of};
+use script_text::{Line, TaskVerb, TreeVerb, Verb, verb_of};
 use smack_base::{LabelId, Modes, RuleOps};
 use smack_decide::cases;
+use smack_world::{Call, Stepped, World};
 use smackfs::{Compiled, TextFault, compile};
 use std::alloc::{AllocError, Global};
 
-/// A run so far: the rules of its newest version, and what it leaves.
+/// A run so far: the rules of its newest version, the world with the trail of its calls, and what
+/// else it leaves.
 #[derive(Drop)]
 pub struct Runner {
     pub rules: RuleIndex,
     pub journal: Journal,
+    pub world: World,
     pub asked: AskedLines,
 }
 
@@ -32,6 +39,7 @@ impl Runner {
         Ok(Runner {
             rules: RuleIndex::new(alloc)?,
             journal: Journal::new(alloc),
+            world: World::new(alloc)?,
             asked: AskedLines::new(alloc),
         })
     }
@@ -100,6 +108,57 @@ impl Runner {
         }
     }
 
+    /// Takes a step of the world in the newest version.
+    fn enter(&mut self, alloc: Global, line: &Line<'_>, call: Call) -> Result<(), AllocError>
+        requires running { IsRunning self.old }
+        requires room { length self.old.world.trail < most_entries }
+        ensures { OnOk result (Runs self.old self.new (entered (seen self.old) (call_seen line.now) (Some call))) }
+    {
+        match self
+            .world
+            .step(alloc, &self.rules, line.task, line.seq, call)
+        {
+            Ok(Stepped::Entered { .. }) => Ok(()),
+            Ok(Stepped::TrailFull(_)) => unreachable!(),
+            Err(_) => Err(AllocError),
+        }
+    }
+
+    /// Makes the call of a line on its task.
+    fn task_line(
+        &mut self,
+        alloc: Global,
+        labels: &Labels,
+        line: &Line<'_>,
+        verb: TaskVerb,
+    ) -> Result<(), AllocError>
+        requires running { IsRunning self.old }
+        requires room { length self.old.world.trail < most_entries }
+        ensures { OnOk result (Runs self.old self.new (entered (seen self.old) (call_seen line.now) (option_map (λ call. Call.Task call) (task_call_of labels.now (call_seen line.now) verb)))) }
+    {
+        match task_call(labels, line, verb) {
+            Some(call) => self.enter(alloc, line, Call::Task(call)),
+            None => Ok(()),
+        }
+    }
+
+    /// Makes the call of a line on the file tree.
+    fn tree_line(
+        &mut self,
+        alloc: Global,
+        line: &Line<'_>,
+        verb: TreeVerb,
+    ) -> Result<(), AllocError>
+        requires running { IsRunning self.old }
+        requires room { length self.old.world.trail < most_entries }
+        ensures { OnOk result (Runs self.old self.new (entered (seen self.old) (call_seen line.now) (option_map (λ call. Call.Tree call) (tree_call_of (call_seen line.now) verb)))) }
+    {
+        match tree_call(alloc, line, verb)? {
+            Some(call) => self.enter(alloc, line, Call::Tree(call)),
+            None => Ok(()),
+        }
+    }
+
     /// Runs one more call.
     pub fn step(
         &mut self,
@@ -109,11 +168,14 @@ impl Runner {
     ) -> Result<(), AllocError>
         requires few { length self.old.journal < 2 ^ 32 - 1 }
         requires running { IsRunning self.old }
+        requires room { length self.old.world.trail < most_entries }
         ensures { OnOk result (Runs self.old self.new (after_line labels.now (seen self.old) (call_seen line.now))) }
     {
         match verb_of(line.verb.bytes) {
             Some(Verb::Write) => self.write(alloc, labels, line),
             Some(Verb::Ask) => self.ask(labels, line),
+            Some(Verb::Task(verb)) => self.task_line(alloc, labels, line, verb),
+            Some(Verb::Tree(verb)) => self.tree_line(alloc, line, verb),
             None => Ok(()),
         }
     }

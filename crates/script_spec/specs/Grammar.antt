@@ -1,4 +1,4 @@
-use Rattle.std.specs.Prelude.{ℕ, ◌+◌, ◌-◌, Bool, true, false, ◌&&◌, ◌||◌, not, ◌==◌, if◌then◌else◌, List, [], ◌∷◌, Option, Some, None, Result, Ok, Err, is_ok, length, take, codes, slice_index_or, nat_lt, nat_le}
+use Rattle.std.specs.Prelude.{ℕ, ◌+◌, ◌-◌, Bool, true, false, ◌&&◌, ◌||◌, not, ◌==◌, if◌then◌else◌, List, [], ◌∷◌, ◌++◌, Option, Some, None, Result, Ok, Err, is_ok, length, take, codes, slice_index_or, nat_lt, nat_le}
 use Rattle.std.specs.List.{flat_map}
 use Rattle.std.specs.Str.{bytes_eq}
 use Rattle.text_spec.specs.declared.BadLine.{BadLine}
@@ -7,7 +7,9 @@ use Rattle.text_spec.specs.Texts.{Placed, TextLine, lines_from, words_from, whol
 use Rattle.text_spec.specs.RuleTexts.{RuleWords, rules_of_text}
 use Rattle.text_spec.specs.Names.{predefined, with_names}
 use Rattle.script_spec.specs.declared.Verb.{Verb}
-use Rattle.script_spec.specs.declared.Verb.TheVariants.{Write, Ask}
+use Rattle.script_spec.specs.declared.Verb.TheVariants.{Write}
+use Rattle.script_spec.specs.declared.WordKind.{WordKind}
+use Rattle.script_spec.specs.declared.WordKind.TheVariants.{Label}
 use Rattle.script_spec.specs.declared.Cause.TheVariants.{NotBuilt}
 use Rattle.script_spec.specs.declared.What.TheVariants.{Bytes, Labels}
 use Rattle.script_spec.specs.declared.ScriptFault.{ScriptFault}
@@ -55,8 +57,7 @@ or_zero (Some n) = n
 
 abbrev pub text_count_of : Option Verb → Placed → ℕ
 text_count_of (Some Write) count = or_zero (number_of count.bytes)
-text_count_of (Some Ask) count = 0
-text_count_of None count = 0
+text_count_of _ count = 0
 
 -- how many of the lines behind a line of these words are its text
 abbrev pub text_count : List Placed → ℕ
@@ -130,10 +131,27 @@ abbrev pub rule_labels : Result (List RuleWords) BadLine → List (List ℕ)
 rule_labels (Err bad) = []
 rule_labels (Ok rules) = flat_map (λ r. r.subject.bytes ∷ r.object.bytes ∷ []) rules
 
+abbrev pub stands_for_label : WordKind → Bool
+stands_for_label Label = true
+stands_for_label _ = false
+
+-- the words that stand for labels, by the kinds of the words
+abbrev pub label_words : List WordKind → List Placed → List (List ℕ)
+label_words [] ws = []
+label_words (k ∷ ks) [] = []
+label_words (k ∷ ks) (w ∷ ws) = if stands_for_label k then w.bytes ∷ label_words ks ws else label_words ks ws
+
+abbrev pub words_behind : ScriptLine → List Placed
+words_behind l = l.one ∷ l.two ∷ l.three ∷ []
+
+-- the labels of the text of a call
+abbrev pub text_labels : Verb → List ℕ → List (List ℕ)
+text_labels Write text = rule_labels (rules_of_text Long text)
+text_labels _ text = []
+
 abbrev pub labels_by : Option Verb → ScriptLine → List (List ℕ)
 labels_by None l = []
-labels_by (Some Write) l = rule_labels (rules_of_text Long l.text.bytes)
-labels_by (Some Ask) l = l.one.bytes ∷ l.two.bytes ∷ []
+labels_by (Some verb) l = label_words (kinds_of verb) (words_behind l) ++ text_labels verb l.text.bytes
 
 -- the labels of a call, in order
 abbrev pub labels_of : ScriptLine → List (List ℕ)

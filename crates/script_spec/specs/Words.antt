@@ -1,13 +1,21 @@
-use Rattle.std.specs.Prelude.{ℕ, ◌+◌, ◌-◌, ◌*◌, Bool, true, false, ◌&&◌, not, ◌==◌, if◌then◌else◌, List, [], ◌∷◌, Option, Some, None, is_some, codes, nat_lt, nat_le}
-use Rattle.std.specs.List.{list_all}
+use Rattle.std.specs.Prelude.{ℕ, ◌+◌, ◌-◌, ◌*◌, Bool, true, false, ◌&&◌, not, ◌==◌, if◌then◌else◌, List, [], ◌∷◌, Option, Some, None, is_ok, is_some, codes, drop, nat_lt, nat_le}
+use Rattle.std.specs.List.{list_all, list_any}
+use Rattle.std.specs.Map.{lookup}
 use Rattle.std.specs.Str.{bytes_eq}
+use Rattle.smack_base.specs.declared.cap.Cap.{Cap}
+use Rattle.smack_base.specs.declared.cap.Cap.TheVariants.{MacAdmin, MacOverride, SysPtrace}
 use Rattle.smack_base.specs.Labels.{is_label}
 use Rattle.smack_base.specs.Modes.{is_modes}
+use Rattle.smack_base.specs.Paths.{path_of, is_slash}
 use Rattle.text_spec.specs.Texts.{Placed}
+use Rattle.script_spec.specs.declared.TaskVerb.{TaskVerb}
+use Rattle.script_spec.specs.declared.TaskVerb.TheVariants.{Relabel, Drop}
+use Rattle.script_spec.specs.declared.TreeVerb.{TreeVerb}
+use Rattle.script_spec.specs.declared.TreeVerb.TheVariants.{Create, Unlink, List as ListNames}
 use Rattle.script_spec.specs.declared.Verb.{Verb}
-use Rattle.script_spec.specs.declared.Verb.TheVariants.{Write, Ask}
+use Rattle.script_spec.specs.declared.Verb.TheVariants.{Write, Ask, Task, Tree}
 use Rattle.script_spec.specs.declared.WordKind.{WordKind}
-use Rattle.script_spec.specs.declared.WordKind.TheVariants.{Label, Modes, File, Number}
+use Rattle.script_spec.specs.declared.WordKind.TheVariants.{Label, Modes, File, Number, Path, Capability}
 
 abbrev pub is_digit : ℕ → Bool
 is_digit b = nat_le 48 b && nat_le b 57
@@ -31,16 +39,50 @@ abbrev pub number_of : List ℕ → Option ℕ
 number_of word = if is_decimal word && nat_lt (value_from 0 word) 4294967296 then Some (value_from 0 word) else None
 
 -- the verbs by name
+abbrev pub verbs : List (List ℕ × Verb)
+verbs =
+    (codes "write", Write)
+    ∷ (codes "ask", Ask)
+    ∷ (codes "relabel", Task Relabel)
+    ∷ (codes "drop", Task Drop)
+    ∷ (codes "create", Tree Create)
+    ∷ (codes "unlink", Tree Unlink)
+    ∷ (codes "list", Tree ListNames)
+    ∷ []
+
 abbrev pub verb_of : List ℕ → Option Verb
-verb_of name =
-    if bytes_eq name (codes "write") then Some Write
-    else (if bytes_eq name (codes "ask") then Some Ask
-    else None)
+verb_of name = lookup (bytes_eq name) verbs
 
 -- the words behind each verb
+abbrev pub task_kinds : TaskVerb → List WordKind
+task_kinds Relabel = Label ∷ []
+task_kinds Drop = Capability ∷ []
+
+abbrev pub tree_kinds : TreeVerb → List WordKind
+tree_kinds Create = Path ∷ []
+tree_kinds Unlink = Path ∷ []
+tree_kinds ListNames = Path ∷ Number ∷ []
+
 abbrev pub kinds_of : Verb → List WordKind
 kinds_of Write = File ∷ Number ∷ []
 kinds_of Ask = Label ∷ Label ∷ Modes ∷ []
+kinds_of (Task verb) = task_kinds verb
+kinds_of (Tree verb) = tree_kinds verb
+
+-- the capabilities by name
+abbrev pub capabilities : List (List ℕ × Cap)
+capabilities =
+    (codes "mac-admin", MacAdmin)
+    ∷ (codes "mac-override", MacOverride)
+    ∷ (codes "sys-ptrace", SysPtrace)
+    ∷ []
+
+abbrev pub cap_of : List ℕ → Option Cap
+cap_of name = lookup (bytes_eq name) capabilities
+
+-- a path of at most one name: its only slash is the first; the only directory so far is the root
+abbrev pub is_root_path : List ℕ → Bool
+is_root_path word = is_ok (path_of word) && not (list_any is_slash (drop 1 word))
 
 -- whether a word is of a kind; the only file so far is load2
 abbrev pub is_of_kind : WordKind → List ℕ → Bool
@@ -48,6 +90,8 @@ is_of_kind Label word = is_label word
 is_of_kind Modes word = is_modes word
 is_of_kind File word = bytes_eq word (codes "load2")
 is_of_kind Number word = is_some (number_of word)
+is_of_kind Path word = is_root_path word
+is_of_kind Capability word = is_some (cap_of word)
 
 -- these words are as many as the kinds, and each is of its kind
 abbrev pub are_of_kinds : List WordKind → List Placed → Bool

@@ -10,13 +10,38 @@ use smack_base::{Ids, Pairs, RuleOps};
 use text_spec::BadLine;
 use thiserror::Error;
 
-/// What a line of a script does: its second word.
+/// The verbs of calls on the calling task.
+#[derive(Clone, Copy, Debug, PartialEq, Eq)]
+pub enum TaskVerb {
+    /// `relabel LABEL`: takes another label.
+    Relabel,
+    /// `drop CAP`: gives a capability up.
+    Drop,
+}
+
+/// The verbs of calls on the file tree.
+#[derive(Clone, Copy, Debug, PartialEq, Eq)]
+pub enum TreeVerb {
+    /// `create PATH`: makes an empty file.
+    Create,
+    /// `unlink PATH`: takes a file away.
+    Unlink,
+    /// `list PATH N`: names up to 16 entries of a directory, from the N-th on.
+    List,
+}
+
+/// What a line of a script does: its second word. The verbs of object calls come by families, as
+/// the calls do.
 #[derive(Clone, Copy, Debug, PartialEq, Eq)]
 pub enum Verb {
     /// `write FILE N`: writes the next N lines to a smackfs file.
     Write,
     /// `ask LABEL LABEL MODES`: asks whether a subject has modes on an object.
     Ask,
+    /// A call on the calling task.
+    Task(TaskVerb),
+    /// A call on the file tree.
+    Tree(TreeVerb),
 }
 
 /// What a word behind a verb may be.
@@ -30,6 +55,10 @@ pub enum WordKind {
     File,
     /// A decimal number up to 4,294,967,295.
     Number,
+    /// The path of the root directory, or of a file in it.
+    Path,
+    /// The name of a capability.
+    Capability,
 }
 
 /// Why a line is not in the grammar of scripts.

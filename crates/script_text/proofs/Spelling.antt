@@ -1,58 +1,43 @@
 use Rattle.std.proofs.Common.{◌≡◌, ◌≤◌, ◌+◌, ℕ, Bool, true, false, List, [], ◌∷◌, refl, sym, ap, ◌∙◌, subst, arith, Some, None}
-use Rattle.std.specs.Prelude.{Option, is_none, ◌&&◌}
-use Rattle.smack_base.specs.Labels.{label_fault, is_label}
-use Rattle.smack_base.specs.declared.label.LabelFault.{LabelFault}
+use Rattle.std.specs.Prelude.{Option, ◌&&◌}
 use Rattle.text_spec.specs.Texts.{Placed, is_space}
 use Rattle.rule_text.specs.declared.part.Part.{Part}
 use Rattle.rule_text.specs.Parts.{placed, lines_of, words_of, end_of}
 use Rattle.script_spec.specs.declared.Verb.{Verb}
-use Rattle.script_spec.specs.declared.Verb.TheVariants.{Write, Ask}
-use Rattle.script_spec.specs.declared.WordKind.TheVariants.{Modes}
-use Rattle.script_spec.specs.Words.{verb_of, are_of_kinds, kinds_of}
+use Rattle.script_spec.specs.declared.Verb.TheVariants.{Write, Ask, Task, Tree}
+use Rattle.script_spec.specs.Words.{verb_of}
 use Rattle.script_spec.specs.Grammar.{ScriptLine, are_words, are_words_of, word_at, text_count, call_of, most_bytes}
-use Rattle.script_text.specs.HasLabels.{HasLabels, HasLabelsBy, IsRuleText}
+use Rattle.script_text.specs.HasLabels.{HasLabels, HasLabelsBy, IsRuleText, IsTextOfVerb}
 use Rattle.script_text.specs.Lines.{call_seen, call_by}
 use Rattle.script_text.specs.Scripts.{IsTextOf, IsSpelled, has_good_text, item_found}
+use Rattle.script_text.proofs.LabelWords.{word_labels}
 use Rattle.script_text.specs.declared.line.Line.{Line}
 use Rattle.script_text.specs.declared.reading.Found.{Found}
-
-and_left : (x y : Bool) → (x && y) ≡ true → x ≡ true
-and_left true y e = refl
-and_left false y e = e
 
 and_right : (x y : Bool) → (x && y) ≡ true → y ≡ true
 and_right true y e = e
 and_right false y e = cc
 
-none_of : (o : Option LabelFault) → is_none o ≡ true → o ≡ None
-none_of None e = refl
-none_of (Some f) e = cc
-
--- the words behind the verb that asks
-ask_labels : (ws : List Placed) → are_of_kinds (kinds_of Ask) ws ≡ true
-    → (label_fault (word_at 0 ws).bytes ≡ None) × (label_fault (word_at 1 ws).bytes ≡ None)
-ask_labels [] e = cc
-ask_labels (s ∷ []) e = cc (and_right (is_label s.bytes) false e)
-ask_labels (s ∷ o ∷ ws) e = (
-  none_of (label_fault s.bytes) (and_left (is_label s.bytes) _ e),
-  none_of (label_fault o.bytes) (and_left (is_label o.bytes) (are_of_kinds (Modes ∷ []) ws) (and_right (is_label s.bytes) _ e)),
-)
+text_of_verb : (verb : Verb) (text : List ℕ) → IsRuleText text → IsTextOfVerb verb text
+text_of_verb Write text is = is
+text_of_verb Ask text is = tt
+text_of_verb (Task verb) text is = tt
+text_of_verb (Tree verb) text is = tt
 
 by_verb : (verb : Option Verb) (ws : List Placed) (l : ScriptLine) → are_words_of verb ws ≡ true → l.one ≡ word_at 0 ws → l.two ≡ word_at 1 ws
-    → IsRuleText l.text.bytes → HasLabelsBy verb l
-by_verb None ws l e one two text = tt
-by_verb (Some Write) ws l e one two text = text
-by_verb (Some Ask) ws l e one two text = rw (one, two) (ask_labels ws e)
+    → l.three ≡ word_at 2 ws → IsRuleText l.text.bytes → HasLabelsBy verb l
+by_verb None ws l e one two three text = tt
+by_verb (Some verb) ws l e one two three text = (rw (one, two, three) (word_labels verb ws e), text_of_verb verb l.text.bytes text)
 
 -- where the words of a call are those of its verb, what stands for labels is labels
 pub has_labels : (words : List Placed) (l : ScriptLine) → are_words words ≡ true → l.verb ≡ word_at 1 words → l.one ≡ word_at 2 words
-    → l.two ≡ word_at 3 words → IsRuleText l.text.bytes → HasLabels l
-has_labels [] l e verb one two text = cc
-has_labels (t ∷ []) l e verb one two text = cc
-has_labels (t ∷ v ∷ ws) l e verb one two text =
+    → l.two ≡ word_at 3 words → l.three ≡ word_at 4 words → IsRuleText l.text.bytes → HasLabels l
+has_labels [] l e verb one two three text = cc
+has_labels (t ∷ []) l e verb one two three text = cc
+has_labels (t ∷ v ∷ ws) l e verb one two three text =
     let P : Option Verb → Type 0 = λ o. HasLabelsBy o l in
     let is : verb_of v.bytes ≡ verb_of l.verb.bytes = ap (λ (p : Placed). verb_of p.bytes) (sym verb) in
-    subst P is (by_verb (verb_of v.bytes) ws l (and_right _ _ e) one two text)
+    subst P is (by_verb (verb_of v.bytes) ws l (and_right _ _ e) one two three text)
 
 -- a line whose words and text are those of a call
 pub spelled : (seq : ℕ) (f : Found) (call : Line) (ws : List Placed) (count : ℕ) (text rest : Part) → ws ≡ words_of is_space f.line
@@ -68,7 +53,7 @@ spelled seq f call ws count text rest words good counted text_good is_text is wi
       labels =
           let P : ScriptLine → Type 0 = λ l. HasLabels l in
           subst P (sym is)
-          (has_labels ws (call_by seq f.number ws (placed text)) good refl refl refl
+          (has_labels ws (call_by seq f.number ws (placed text)) good refl refl refl refl
           (record { good = is_text.good; short = omega (arith, is_text.short, is_text.ends) }));
       rest = rw (← words, ← counted) is_text.behind;
       line = rw (← words, ← counted) refl;

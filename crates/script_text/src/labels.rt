@@ -1,23 +1,24 @@
-ghost use Rattle.std.specs.Prelude.{◌≡◌, ◌<◌, ◌≤◌, ◌∷◌, [], length, None, Err, OnOk};
-ghost use Rattle.smack_base.specs.Labels.{label_fault};
+ghost use Rattle.std.specs.Prelude.{◌≡◌, ◌<◌, ◌≤◌, ◌∷◌, [], length, map, true, Err, OnOk};
+ghost use Rattle.smack_base.specs.Labels.{is_label};
 ghost use Rattle.text_spec.specs.Names.{with_name, with_names};
 ghost use Rattle.text_spec.specs.RuleTexts.{rules_of_text};
 ghost use Rattle.text_spec.specs.declared.RuleForm.TheVariants.{Long};
-ghost use Rattle.script_spec.specs.Grammar.{labels_of, rule_labels, most_labels};
+ghost use Rattle.rule_text.specs.Parts.{placed};
+ghost use Rattle.script_spec.specs.Grammar.{labels_of, label_words, stands_for_label as is_kind_of_label, rule_labels, text_labels, most_labels};
 ghost use Rattle.script_text.specs.Lines.{call_seen};
-ghost use Rattle.script_text.specs.HasLabels.{HasLabels, IsRuleText};
+ghost use Rattle.script_text.specs.HasLabels.{AreLabels, HasLabels, IsRuleText, IsTextOfVerb};
 
 use crate::line::Line;
-use crate::words::verb_of;
+use crate::words::{kinds_of, verb_of};
 use label_table::{Labels, LabelsFault};
-use rule_text::RuleLines;
-use script_spec::Verb;
+use rule_text::{Part, RuleLines};
+use script_spec::{Verb, WordKind};
 use smack_base::Label;
 use text_spec::RuleForm;
 
 /// Adds the label that a text is.
 fn add_label(labels: &mut Labels, text: &[u8]) -> Result<(), LabelsFault>
-    requires { label_fault text.now ≡ None }
+    requires { is_label text.now ≡ true }
     ensures ok { OnOk result (labels.new ≡ with_name labels.old text.now) }
     ensures limit { OnOk result (length labels.new ≤ most_labels) }
     ensures many { result ≡ Err LabelsFault.TooMany → most_labels < length (with_name labels.old text.now) }
@@ -32,8 +33,8 @@ fn add_label(labels: &mut Labels, text: &[u8]) -> Result<(), LabelsFault>
 }
 
 fn add_both(labels: &mut Labels, one: &[u8], two: &[u8]) -> Result<(), LabelsFault>
-    requires one { label_fault one.now ≡ None }
-    requires two { label_fault two.now ≡ None }
+    requires one { is_label one.now ≡ true }
+    requires two { is_label two.now ≡ true }
     ensures ok { OnOk result (labels.new ≡ with_names labels.old (one.now ∷ two.now ∷ [])) }
     ensures limit { OnOk result (length labels.new ≤ most_labels) }
     ensures many { result ≡ Err LabelsFault.TooMany → most_labels < length (with_names labels.old (one.now ∷ two.now ∷ [])) }
@@ -66,6 +67,51 @@ fn add_rule_labels(labels: &mut Labels, text: &[u8]) -> Result<(), LabelsFault>
     Ok(())
 }
 
+fn stands_for_label(kind: WordKind) -> bool
+    ensures { result ≡ is_kind_of_label kind }
+{
+    matches!(kind, WordKind::Label)
+}
+
+/// Adds the words that stand for labels, by the kinds of the words.
+fn add_label_words(
+    labels: &mut Labels,
+    kinds: &[WordKind],
+    words: &[Part<'_>],
+) -> Result<(), LabelsFault>
+    requires are { AreLabels (label_words kinds.now (map placed words.now)) }
+    requires as_many { length kinds.now ≤ length words.now }
+    requires limit { length labels.old ≤ most_labels }
+    ensures ok { OnOk result (labels.new ≡ with_names labels.old (label_words kinds.now (map placed words.now))) }
+    ensures limit { OnOk result (length labels.new ≤ most_labels) }
+    ensures many { result ≡ Err LabelsFault.TooMany → most_labels < length (with_names labels.old (label_words kinds.now (map placed words.now))) }
+{
+    for (i, kind) in kinds.iter().enumerate() {
+        if stands_for_label(*kind) {
+            if let Err(fault) = add_label(labels, words[i].bytes) {
+                return Err(fault);
+            }
+        }
+    }
+    Ok(())
+}
+
+/// Adds the labels of the text of a call.
+fn add_text_labels(labels: &mut Labels, verb: Verb, text: &[u8]) -> Result<(), LabelsFault>
+    requires text { IsTextOfVerb verb text.now }
+    requires limit { length labels.old ≤ most_labels }
+    ensures ok { OnOk result (labels.new ≡ with_names labels.old (text_labels verb text.now)) }
+    ensures limit { OnOk result (length labels.new ≤ most_labels) }
+    ensures many { result ≡ Err LabelsFault.TooMany → most_labels < length (with_names labels.old (text_labels verb text.now)) }
+{
+    match verb {
+        Verb::Write => add_rule_labels(labels, text),
+        Verb::Ask => Ok(()),
+        Verb::Task(_) => Ok(()),
+        Verb::Tree(_) => Ok(()),
+    }
+}
+
 /// Adds the labels of a call. `TooMany` comes where more than 65,535 would stand.
 pub fn add_labels(labels: &mut Labels, call: &Line<'_>) -> Result<(), LabelsFault>
     requires labels { HasLabels (call_seen call.now) }
@@ -74,9 +120,12 @@ pub fn add_labels(labels: &mut Labels, call: &Line<'_>) -> Result<(), LabelsFaul
     ensures limit { OnOk result (length labels.new ≤ most_labels) }
     ensures many { result ≡ Err LabelsFault.TooMany → most_labels < length (with_names labels.old (labels_of (call_seen call.now))) }
 {
-    match verb_of(call.verb.bytes) {
-        Some(Verb::Write) => add_rule_labels(labels, call.text.bytes),
-        Some(Verb::Ask) => add_both(labels, call.one.bytes, call.two.bytes),
-        None => Ok(()),
+    let Some(verb) = verb_of(call.verb.bytes) else {
+        return Ok(());
+    };
+    let words = [call.one, call.two, call.three];
+    if let Err(fault) = add_label_words(labels, kinds_of(verb), &words) {
+        return Err(fault);
     }
+    add_text_labels(labels, verb, call.text.bytes)
 }

@@ -17,5 +17,5 @@ mod words;
 
 pub use line::Line;
 pub use script::{MOST_BYTES, Script};
-pub use script_spec::{Cause, ScriptFault, Verb, What};
-pub use words::verb_of;
+pub use script_spec::{Cause, ScriptFault, TaskVerb, TreeVerb, Verb, What};
+pub use words::{cap_of, number_of, verb_of};

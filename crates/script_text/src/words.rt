@@ -1,14 +1,14 @@
 ghost use Rattle.std.specs.Prelude.{true, ◌≡◌, ◌<◌, ◌≤◌, ◌^◌, ◌+◌, ◌*◌, ◌∷◌, ◌++◌, [], length, map, drop, IfOk, IfSome, MatchOption, All};
-ghost use Rattle.std.specs.List.{list_all};
+ghost use Rattle.std.specs.List.{list_all, list_any};
+ghost use Rattle.smack_base.specs.Paths.{is_slash as is_slash_byte};
 ghost use Rattle.text_spec.specs.Texts.{is_space};
 ghost use Rattle.rule_text.specs.Parts.{Fits, placed, words_of};
-ghost use Rattle.text_spec.specs.Texts.{is_space};
-ghost use Rattle.script_spec.specs.Words.{verb_of as verb_of_name, kinds_of as kinds_of_verb, number_of as number_of_word, is_decimal as is_decimal_word, value_from, is_digit as is_digit_byte, is_of_kind as is_word_of_kind, are_of_kinds as are_words_of_kinds};
+ghost use Rattle.script_spec.specs.Words.{verb_of as verb_of_name, kinds_of as kinds_of_verb, task_kinds as kinds_of_task_verb, tree_kinds as kinds_of_tree_verb, cap_of as cap_of_name, is_root_path as is_word_root_path, number_of as number_of_word, is_decimal as is_decimal_word, value_from, is_digit as is_digit_byte, is_of_kind as is_word_of_kind, are_of_kinds as are_words_of_kinds};
 ghost use Rattle.script_spec.specs.Grammar.{are_words as are_words_of_call, text_count as text_count_of_words};
 
 use rule_text::{Part, Separator, split_word};
-use script_spec::{Verb, WordKind};
-use smack_base::{Label, Modes};
+use script_spec::{TaskVerb, TreeVerb, Verb, WordKind};
+use smack_base::{Cap, Label, Modes, is_path};
 use std::alloc::{AllocError, Global};
 
 /// The verb with this name; None where there is none.
@@ -19,19 +19,88 @@ pub fn verb_of(name: &[u8]) -> Option<Verb>
         Some(Verb::Write)
     } else if name == b"ask".as_slice() {
         Some(Verb::Ask)
+    } else if name == b"relabel".as_slice() {
+        Some(Verb::Task(TaskVerb::Relabel))
+    } else if name == b"drop".as_slice() {
+        Some(Verb::Task(TaskVerb::Drop))
+    } else if name == b"create".as_slice() {
+        Some(Verb::Tree(TreeVerb::Create))
+    } else if name == b"unlink".as_slice() {
+        Some(Verb::Tree(TreeVerb::Unlink))
+    } else if name == b"list".as_slice() {
+        Some(Verb::Tree(TreeVerb::List))
     } else {
         None
     }
 }
 
+fn task_kinds(verb: TaskVerb) -> &'static [WordKind]
+    ensures kinds { result.now ≡ kinds_of_task_verb verb }
+    ensures few { length result.now ≤ 3 }
+{
+    match verb {
+        TaskVerb::Relabel => &[WordKind::Label],
+        TaskVerb::Drop => &[WordKind::Capability],
+    }
+}
+
+fn tree_kinds(verb: TreeVerb) -> &'static [WordKind]
+    ensures kinds { result.now ≡ kinds_of_tree_verb verb }
+    ensures few { length result.now ≤ 3 }
+{
+    match verb {
+        TreeVerb::Create => &[WordKind::Path],
+        TreeVerb::Unlink => &[WordKind::Path],
+        TreeVerb::List => &[WordKind::Path, WordKind::Number],
+    }
+}
+
 /// The kinds of the words behind a verb.
-fn kinds_of(verb: Verb) -> &'static [WordKind]
-    ensures { result.now ≡ kinds_of_verb verb }
+pub fn kinds_of(verb: Verb) -> &'static [WordKind]
+    ensures kinds { result.now ≡ kinds_of_verb verb }
+    ensures few { length result.now ≤ 3 }
 {
     match verb {
         Verb::Write => &[WordKind::File, WordKind::Number],
         Verb::Ask => &[WordKind::Label, WordKind::Label, WordKind::Modes],
+        Verb::Task(verb) => task_kinds(verb),
+        Verb::Tree(verb) => tree_kinds(verb),
     }
+}
+
+/// The capability with this name; None where there is none.
+pub fn cap_of(name: &[u8]) -> Option<Cap>
+    ensures { result ≡ cap_of_name name.now }
+{
+    if name == b"mac-admin".as_slice() {
+        Some(Cap::MacAdmin)
+    } else if name == b"mac-override".as_slice() {
+        Some(Cap::MacOverride)
+    } else if name == b"sys-ptrace".as_slice() {
+        Some(Cap::SysPtrace)
+    } else {
+        None
+    }
+}
+
+fn is_slash(b: u8) -> bool
+    ensures { result ≡ is_slash_byte b }
+{
+    b == b'/'
+}
+
+/// Whether a slash stands behind the first byte.
+fn has_slash_behind_first(word: &[u8]) -> bool
+    ensures { result ≡ list_any is_slash_byte (drop 1 word.now) }
+{
+    word.iter().skip(1).any(|b| is_slash(*b))
+}
+
+/// Whether a word is the path of the root directory, or of a file in it.
+fn is_root_path(word: &[u8]) -> bool
+    ensures { result ≡ is_word_root_path word.now }
+{
+    is_path(word) && !has_slash_behind_first(word)
 }
 
 fn is_digit(b: u8) -> bool
@@ -103,6 +172,8 @@ fn is_of_kind(kind: WordKind, word: &[u8]) -> bool
         WordKind::Modes => Modes::read(word).is_ok(),
         WordKind::File => word == b"load2".as_slice(),
         WordKind::Number => number_of(word).is_some(),
+        WordKind::Path => is_root_path(word),
+        WordKind::Capability => cap_of(word).is_some(),
     }
 }
 

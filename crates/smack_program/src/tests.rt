@@ -2,6 +2,7 @@ use crate::status::Status;
 use crate::top::smack_main;
 use outside::{CalmSink, CalmSource, MemSink, MemSource};
 use script_text::{Cause, What};
+use smack_base::Bytes;
 use std::process::Abort;
 use std::test::Fail;
 
@@ -53,12 +54,138 @@ fn scripts_and_their_records(rt: HostRuntime) -> Result<(), Fail> {
     Ok(())
 }
 
+const OBJECT_CALLS: &str = "init create /f
+init relabel A
+init list / 0
+init drop mac-override
+init unlink /f
+init drop mac-admin
+init relabel B
+";
+
+const THEIR_RECORD: &str = "smack 1
+task 0 init
+h 1 0.1 v0 create /f
+c _ _ x allow 3
+c _ _ rw allow 5
+= ok
+h 2 0.2 v0 relabel A
+= ok
+h 3 0.3 v0 list / 0
+c A _ r allow 3
+= names 1 1 f
+h 4 0.4 v0 drop mac-override
+= ok
+h 5 0.5 v0 unlink /f
+c A _ x allow 3
+c A _ rw deny 7
+a action=denied fn=unlink subject=A object=_ requested=rw case=7
+= denied 7
+h 6 0.6 v0 drop mac-admin
+= ok
+h 7 0.7 v0 relabel B
+= not-privileged
+end 0 7 0
+";
+
+#[test]
+fn object_calls_and_their_record(rt: HostRuntime) -> Result<(), Fail> {
+    assert!(rt;
+        replays(
+            &rt,
+            OBJECT_CALLS.as_bytes(),
+            Status::Done,
+            THEIR_RECORD.as_bytes()
+        )?
+    );
+    Ok(())
+}
+
+const REFUSED_CALLS: &str = "init create /
+init create /f
+init create /f
+init write load2 1
+A _ rw
+init relabel A
+init unlink /g
+init list /f 7
+init unlink /f
+init create /b
+init create /a
+init ask A _ rw
+init list / 1
+";
+
+const REFUSED_RECORD: &str = "smack 1
+task 0 init
+j 1 0.4 1
+o set A _ rw
+h 1 0.1 v0 create /
+= is-root
+h 2 0.2 v0 create /f
+c _ _ x allow 3
+c _ _ rw allow 5
+= ok
+h 3 0.3 v0 create /f
+c _ _ x allow 3
+c _ _ rw allow 5
+= exists
+h 4 0.5 v1 relabel A
+= ok
+h 5 0.6 v1 unlink /g
+c A _ x allow 3
+= no-such-name
+h 6 0.7 v1 list /f 7
+c A _ x allow 3
+c A _ r allow 3
+= not-directory
+h 7 0.8 v1 unlink /f
+c A _ x allow 3
+c A _ rw allow 6
+c A _ rw allow 6
+= ok
+h 8 0.9 v1 create /b
+c A _ x allow 3
+c A _ rw allow 6
+= ok
+h 9 0.10 v1 create /a
+c A _ x allow 3
+c A _ rw allow 6
+= ok
+h 10 0.12 v1 list / 1
+c A _ r allow 3
+= names 2 1 b
+q 0.11 v1 ask A _ rw
+= allow 6
+end 1 10 1
+";
+
+#[test]
+fn refused_calls_and_rules(rt: HostRuntime) -> Result<(), Fail> {
+    assert!(rt;
+        replays(
+            &rt,
+            REFUSED_CALLS.as_bytes(),
+            Status::Done,
+            REFUSED_RECORD.as_bytes()
+        )?
+    );
+    Ok(())
+}
+
 #[test]
 fn bad_lines_and_too_many_bytes(rt: HostRuntime) -> Result<(), Fail> {
     let rows = [
         ("init frob\n", 1),
         ("\n# c\ninit ask A B r\ninit ask A B z", 4),
         ("init write load2 1\nA B z\n", 1),
+        ("init create /f\ninit create /d/f\n", 2),
+        ("init create f\n", 1),
+        ("init create /f x\n", 1),
+        ("init list /\n", 1),
+        ("init list / 01\n", 1),
+        ("init drop mac_admin\n", 1),
+        ("init relabel -A\n", 1),
     ];
     for (script, line) in rows {
         let status = Status::Malformed {
@@ -81,7 +208,26 @@ fn bad_lines_and_too_many_bytes(rt: HostRuntime) -> Result<(), Fail> {
     Ok(())
 }
 
-/// Whether the words end with this status, where these reads and writes fail, and the sink took
+/// How a script ends under these words, where a read and a write of these numbers fail, and what
+/// the sink took, 8 bytes at a time.
+fn ended(
+    rt: &(impl Abort + AllocGlobal),
+    words: &[&str],
+    script: &[u8],
+    fails: (u32, u32),
+) -> Result<(Status, Bytes), Fail> {
+    let mut owned = Vec::new(rt.alloc());
+    for word in words {
+        owned.push(String::from_str(rt.alloc(), word)?)?;
+    }
+    let script = Vec::from_slice(rt.alloc(), script)?;
+    let mut source = MemSource::new(script, vec![in rt.alloc(); fails.0]?);
+    let mut sink = MemSink::new(rt.alloc(), 8, vec![in rt.alloc(); fails.1]?);
+    let status = smack_main(rt.alloc(), owned.as_slice(), &mut source, &mut sink);
+    Ok((status, Bytes::from_slice(rt.alloc(), sink.taken())?))
+}
+
+/// Whether the script of one rule ends with this status under these words and faults, and the sink took
 /// this text.
 fn ends(
     rt: &(impl Abort + AllocGlobal),
@@ -90,15 +236,8 @@ fn ends(
     status: Status,
     text: &[u8],
 ) -> Result<bool, Fail> {
-    let mut owned = Vec::new(rt.alloc());
-    for word in words {
-        owned.push(String::from_str(rt.alloc(), word)?)?;
-    }
-    let script = Vec::from_slice(rt.alloc(), LOADED.as_bytes())?;
-    let mut source = MemSource::new(script, vec![in rt.alloc(); fails.0]?);
-    let mut sink = MemSink::new(rt.alloc(), 8, vec![in rt.alloc(); fails.1]?);
-    let ended = smack_main(rt.alloc(), owned.as_slice(), &mut source, &mut sink);
-    Ok(ended == status && sink.taken() == text)
+    let (end, taken) = ended(rt, words, LOADED.as_bytes(), fails)?;
+    Ok(end == status && taken.items() == text)
 }
 
 #[test]
@@ -120,6 +259,35 @@ fn words_and_faults(rt: HostRuntime) -> Result<(), Fail> {
     for (words, fails, status, text) in rows {
         assert!(rt; ends(&rt, words, fails, status, text)?);
     }
+    Ok(())
+}
+
+/// How many writes of at most 8 bytes `THEIR_RECORD` takes: each line with its line feed takes an
+/// eighth of its bytes, rounded up.
+const THEIR_WRITES: u32 = 59;
+
+/// Every write of a record fails once, and every read of its script: the status is that of the
+/// fault, and what was written is a front of the record, or nothing.
+#[test]
+fn each_fault_of_reading_and_writing(rt: HostRuntime) -> Result<(), Fail> {
+    let script = OBJECT_CALLS.as_bytes();
+    let text = THEIR_RECORD.as_bytes();
+    let mut longest = 0;
+    for write in 1..=THEIR_WRITES {
+        let (status, taken) = ended(&rt, &["replay"], script, (0, write))?;
+        assert!(rt; status == Status::WriteFault);
+        assert!(rt; text.starts_with(taken.items()) && taken.items().len() < text.len());
+        assert!(rt; write == 1 || longest < taken.items().len());
+        longest = taken.items().len();
+    }
+    let (status, taken) = ended(&rt, &["replay"], script, (0, THEIR_WRITES + 1))?;
+    assert!(rt; status == Status::Done && taken.items() == text);
+    for read in [1, 2] {
+        let (status, taken) = ended(&rt, &["replay"], script, (read, 0))?;
+        assert!(rt; status == Status::ReadFault && taken.items().is_empty());
+    }
+    let (status, _) = ended(&rt, &["replay"], script, (3, 0))?;
+    assert!(rt; status == Status::Done);
     Ok(())
 }
 

@@ -9,5 +9,6 @@ abbrev pub invariant-loop-line : goal.invariant-loop-line
 invariant-loop-line l = record {
   run : seen l.run ≡ run_of l.labels (map call_seen (take l.line-index l.lines));
   running : IsRunning l.run;
-  few : length l.run.journal ≤ l.line-index;
+  batches : length l.run.journal ≤ l.line-index;
+  entries : length l.run.world.trail ≤ l.line-index;
 }
