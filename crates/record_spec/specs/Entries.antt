@@ -1,4 +1,4 @@
-use Rattle.std.specs.Prelude.{ℕ, ◌+◌, Bool, not, if◌then◌else◌, List, [], ◌∷◌, ◌++◌, length, map, codes, decimal}
+use Rattle.std.specs.Prelude.{ℕ, Bool, ◌||◌, ◌==◌, if◌then◌else◌, List, [], ◌∷◌, ◌++◌, length, map, codes, decimal}
 use Rattle.std.specs.List.{flat_map}
 use Rattle.smack_base.specs.declared.cap.Cap.{Cap}
 use Rattle.smack_base.specs.declared.cap.Cap.TheVariants.{MacAdmin, MacOverride, SysPtrace}
@@ -82,15 +82,15 @@ abbrev pub audit_line : List (List ℕ) → List ℕ → Verdict → List ℕ
 audit_line labels verb v =
     codes "a" ++ pair (codes "action") (action_text v.allowed) ++ pair (codes "fn") verb ++ checked_pairs labels v ++ feed
 
--- whether a check is logged: the logging mode is 1, and so the denied ones are
-abbrev pub is_logged : Verdict → Bool
-is_logged v = not v.allowed
+-- whether a check is logged in a logging mode: the denied ones in 1 and 3, the granted ones in 2 and 3
+abbrev pub is_logged : ℕ → Verdict → Bool
+is_logged mode v = if v.allowed then (mode == 2) || (mode == 3) else (mode == 1) || (mode == 3)
 
-abbrev pub audit_lines_of : List (List ℕ) → List ℕ → Verdict → List (List ℕ)
-audit_lines_of labels verb v = if is_logged v then audit_line labels verb v ∷ [] else []
+abbrev pub audit_lines_of : List (List ℕ) → ℕ → List ℕ → Verdict → List (List ℕ)
+audit_lines_of labels mode verb v = if is_logged mode v then audit_line labels verb v ∷ [] else []
 
-abbrev pub audit_lines : List (List ℕ) → List ℕ → List Verdict → List (List ℕ)
-audit_lines labels verb checks = flat_map (audit_lines_of labels verb) checks
+abbrev pub audit_lines : List (List ℕ) → ℕ → List ℕ → List Verdict → List (List ℕ)
+audit_lines labels mode verb checks = flat_map (audit_lines_of labels mode verb) checks
 
 abbrev pub why_text : Why → List ℕ
 why_text Exists = codes "exists"
@@ -109,8 +109,8 @@ reply_words (Refused why) = word (why_text why)
 abbrev pub reply_line : Reply → List ℕ
 reply_line reply = codes "=" ++ reply_words reply ++ feed
 
--- a call, its checks, what is logged of them, and its reply
-abbrev pub entry_lines : List (List ℕ) → ℕ → Entry → List (List ℕ)
-entry_lines labels place e =
-    entry_head labels place e ∷ map (check_line labels) e.checks ++ audit_lines labels (call_verb e.call) e.checks
+-- a call, its checks, what is logged of them in a logging mode, and its reply
+abbrev pub entry_lines : List (List ℕ) → ℕ → ℕ → Entry → List (List ℕ)
+entry_lines labels mode place e =
+    entry_head labels place e ∷ map (check_line labels) e.checks ++ audit_lines labels mode (call_verb e.call) e.checks
     ++ reply_line e.reply ∷ []

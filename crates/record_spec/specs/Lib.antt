@@ -1,5 +1,6 @@
 pub mod Words
 pub mod Entries
+pub mod Refusals
 pub mod Show
 pub mod Calls
 pub mod Replays

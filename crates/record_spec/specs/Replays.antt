@@ -2,14 +2,18 @@ use Rattle.std.specs.Prelude.{ℕ, List, [], ◌∷◌, ◌++◌, Option, Some, 
 use Rattle.smack_base.specs.Modes.{modes_of, is_modes}
 use Rattle.smack_base.specs.declared.modes.Modes.{Modes}
 use Rattle.smack_base.specs.declared.ids.LabelId.{LabelId}
+use Rattle.smack_base.specs.declared.cap.Cap.TheVariants.{MacAdmin}
+use Rattle.smack_base.specs.declared.rule_op.RuleOp.{RuleOp}
 use Rattle.rules_spec.specs.declared.Batch.{Batch}
 use Rattle.rules_spec.specs.Rulings.{ruling}
 use Rattle.rules_spec.specs.Cases.{verdict_of_cases}
+use Rattle.rules_spec.specs.Creds.{is_effective}
 use Rattle.std.specs.Option.{option_map}
 use Rattle.text_spec.specs.Names.{id_of}
 use Rattle.script_spec.specs.declared.Verb.{Verb}
 use Rattle.script_spec.specs.declared.Verb.TheVariants.{Write, Ask as AskVerb, Task as TaskVerb, Tree as TreeVerb}
 use Rattle.script_spec.specs.declared.Refusal.{Refusal}
+use Rattle.script_spec.specs.declared.Refusal.TheVariants.{NotPrivileged}
 use Rattle.script_spec.specs.declared.Compiled.{Compiled}
 use Rattle.script_spec.specs.declared.Compiled.TheVariants.{Rules, SelfRules, Relabels}
 use Rattle.script_spec.specs.Words.{verb_of}
@@ -22,7 +26,7 @@ use Rattle.world_spec.specs.Worlds.{World, world_first}
 use Rattle.world_spec.specs.Steps.{step}
 use Rattle.record_spec.specs.Calls.{task_call, tree_call}
 use Rattle.record_spec.specs.declared.AskedLine.{AskedLine}
-use Rattle.record_spec.specs.declared.AskedWhat.TheVariants.{Ask}
+use Rattle.record_spec.specs.declared.AskedWhat.TheVariants.{Ask, Refused}
 use Rattle.record_spec.specs.declared.RunRecord.{RunRecord}
 
 -- what the calls so far have left
@@ -35,14 +39,30 @@ pub record Run : Type 0 where
 abbrev pub run_first : Run
 run_first = record { journal = []; world = world_first; history = []; asked = [] }
 
--- a text that is accepted is published as one batch
-abbrev pub published : Run → ScriptLine → Result Compiled Refusal → Run
-published run l (Ok (Rules ops)) = record run {
+-- the writes of a text are published as one batch
+abbrev pub published : Run → ScriptLine → List RuleOp → Run
+published run l ops = record run {
   journal = run.journal ++ (record { task = l.task; seq = l.seq; ops = ops }) ∷ [];
 }
-published run l (Ok (SelfRules rules)) = run
-published run l (Ok (Relabels labels)) = run
-published run l (Err refusal) = run
+
+-- a refused write is a line of its own
+abbrev pub refused : Run → ScriptLine → Refusal → Run
+refused run l fault = record run {
+  asked = run.asked ++ (record {
+    task = l.task;
+    seq = l.seq;
+    version = length run.journal;
+    what = Refused l.one.bytes fault;
+  }) ∷ [];
+}
+
+-- a text that is accepted is published where its writer has CAP_MAC_ADMIN in the newest version
+abbrev pub written : Run → ScriptLine → Result Compiled Refusal → Run
+written run l (Ok (Rules ops)) =
+    if is_effective run.world.creds MacAdmin (ruling run.journal) then published run l ops else refused run l NotPrivileged
+written run l (Ok (SelfRules rules)) = run
+written run l (Ok (Relabels labels)) = run
+written run l (Err fault) = refused run l fault
 
 -- a question is answered by the ordered cases in the newest version
 abbrev pub answered : Run → ScriptLine → Option LabelId → Option LabelId → Option Modes → Run
@@ -77,7 +97,7 @@ abbrev pub modes_in : List ℕ → Option Modes
 modes_in word = if is_modes word then Some (modes_of word) else None
 
 abbrev pub after_verb : List (List ℕ) → Run → ScriptLine → Option Verb → Run
-after_verb table run l (Some Write) = published run l (compiled table l.one.bytes l.text.bytes)
+after_verb table run l (Some Write) = written run l (compiled table l.one.bytes l.text.bytes)
 after_verb table run l (Some AskVerb) =
     answered run l (id_of table l.one.bytes) (id_of table l.two.bytes) (modes_in l.three.bytes)
 after_verb table run l (Some (TaskVerb verb)) = entered run l (option_map (λ call. Task call) (task_call table l verb))

@@ -1,15 +1,17 @@
-use Rattle.std.specs.Prelude.{ℕ, ◌+◌, List, [], ◌∷◌, ◌++◌, length, map, codes, slice_index_or}
+use Rattle.std.specs.Prelude.{ℕ, ◌+◌, List, [], ◌∷◌, ◌++◌, length, map, take, codes, slice_index_or}
 use Rattle.std.specs.List.{flat_map}
 use Rattle.smack_base.specs.declared.rule_op.RuleOp.{RuleOp}
 use Rattle.smack_base.specs.declared.rule_op.RuleOp.TheVariants.{Set, Change, Revoke, OnlyClear, OnlyAdd, Ambient, Ptrace, Logging}
 use Rattle.rules_spec.specs.declared.Batch.{Batch}
 use Rattle.rules_spec.specs.declared.Verdict.{Verdict}
+use Rattle.rules_spec.specs.Versions.{logging}
 use Rattle.record_spec.specs.declared.AskedLine.{AskedLine}
 use Rattle.record_spec.specs.declared.AskedWhat.{AskedWhat}
-use Rattle.record_spec.specs.declared.AskedWhat.TheVariants.{Ask}
+use Rattle.record_spec.specs.declared.AskedWhat.TheVariants.{Ask, Refused}
 use Rattle.record_spec.specs.declared.RunRecord.{RunRecord}
 use Rattle.record_spec.specs.Words.{word, number, label, modes, feed, call_number, version_word, triple, decision}
 use Rattle.record_spec.specs.Entries.{entry_lines}
+use Rattle.record_spec.specs.Refusals.{refusal_words}
 
 -- a rule write: its name and its words
 abbrev pub op_words : List (List ℕ) → RuleOp → List ℕ
@@ -42,8 +44,10 @@ answer_line v = codes "=" ++ decision v ++ feed
 abbrev pub what_lines : List (List ℕ) → List ℕ → AskedWhat → List (List ℕ)
 what_lines labels head (Ask v) =
     (head ++ codes " ask" ++ triple labels v.subject v.object v.modes ++ feed) ∷ answer_line v ∷ []
+what_lines labels head (Refused file fault) =
+    (head ++ codes " write" ++ word file ++ feed) ∷ (codes "=" ++ refusal_words fault ++ feed) ∷ []
 
--- an asked line and its answer
+-- an asked or refused line and its answer
 abbrev pub asked_lines : List (List ℕ) → AskedLine → List (List ℕ)
 asked_lines labels a = what_lines labels (asked_head a) a.what
 
@@ -52,12 +56,16 @@ abbrev pub lines_in_turn : {X : Type 0} → (ℕ → X → List (List ℕ)) → 
 lines_in_turn f place [] = []
 lines_in_turn f place (x ∷ xs) = f place x ++ lines_in_turn f (place + 1) xs
 
--- batches by the version that each makes, object calls by their place among them, and asked lines
+-- batches by the version that each makes, object calls by their place among them, asked and refused lines
 abbrev pub journal_lines : RunRecord → List (List ℕ)
 journal_lines r = lines_in_turn (batch_lines r.labels) 1 r.journal
 
+-- the logging mode of a version of a journal
+abbrev pub mode_of : List Batch → ℕ → ℕ
+mode_of journal version = logging (take version journal)
+
 abbrev pub history_lines : RunRecord → List (List ℕ)
-history_lines r = lines_in_turn (entry_lines r.labels) 1 r.history
+history_lines r = lines_in_turn (λ place e. entry_lines r.labels (mode_of r.journal e.version) place e) 1 r.history
 
 abbrev pub question_lines : RunRecord → List (List ℕ)
 question_lines r = lines_in_turn (λ place a. asked_lines r.labels a) 1 r.asked
@@ -68,7 +76,7 @@ first_line = codes "smack 1\n"
 abbrev pub task_line : ℕ → List ℕ → List ℕ
 task_line task name = codes "task" ++ number task ++ word name ++ feed
 
--- the numbers of batches, of object calls and of asked lines
+-- the numbers of batches, of object calls and of asked and refused lines
 abbrev pub end_line : RunRecord → List ℕ
 end_line r = codes "end" ++ number (length r.journal) ++ number (length r.history) ++ number (length r.asked) ++ feed
 

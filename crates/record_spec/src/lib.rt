@@ -1,15 +1,16 @@
 //! What records mean: all that a run leaves, its text, and the record that the replay of a script
 //! leaves. Plain data; the definitions stand in `specs/`.
 //!
-//! `Show` is the text of a record, line by line, and `Entries` that of an object call with its
-//! checks, its audit lines and its reply. `Calls` says which object call a line of a script makes.
+//! `Show` is the text of a record, line by line, `Entries` that of an object call with its checks,
+//! its audit lines and its reply, and `Refusals` that of a refused write. `Calls` says which object call a line of a script makes.
 //! `Replays` takes the lines of a script in written order, each judged at the newest version, and
 //! says which record that makes.
 #![tactic(auto)]
 
 use label_table::Labels;
 use rules_spec::{Journal, Verdict};
-use smack_base::{NameList, Sequence};
+use script_spec::Refusal;
+use smack_base::{Bytes, NameList, Sequence};
 use world_spec::Trail;
 
 /// What a line that is no object call asked, with its answer.
@@ -17,6 +18,8 @@ use world_spec::Trail;
 pub enum AskedWhat {
     /// A question on a subject, an object and modes.
     Ask(Verdict),
+    /// A write to a smackfs file that was refused.
+    Refused { file: Bytes, fault: Refusal },
 }
 
 /// A line that is no object call.

@@ -9,6 +9,6 @@ pub mod MovedPlaces
 pub mod Trimmed
 pub mod ChangeLine
 pub mod GoodFields
-pub mod FirstBad
 pub mod RuleSlices
 pub mod LabelSlices
+pub mod SubjectSlices

@@ -1,4 +1,5 @@
-use Rattle.std.specs.Prelude.{Bool, false, List, [], ◌∷◌, Result, Ok, Err}
+use Rattle.std.specs.Prelude.{◌≡◌, Bool, false, List, [], ◌∷◌, None, Result, Ok, Err}
+use Rattle.smack_base.specs.Labels.{label_fault}
 use Rattle.text_spec.specs.declared.BadLine.{BadLine}
 use Rattle.text_spec.specs.Texts.{Placed}
 use Rattle.text_spec.specs.RuleTexts.{LineWord, is_dash}
@@ -15,3 +16,8 @@ abbrev pub is_sole_dash : List LineWord → Bool
 is_sole_dash [] = false
 is_sole_dash (w ∷ []) = is_dash w.word.bytes
 is_sole_dash (w ∷ v ∷ ws) = false
+
+-- a label that is given is one
+abbrev pub IsGoodLabel : Result Part BadLine → Type 0
+IsGoodLabel (Ok p) = label_fault p.bytes.now ≡ None
+IsGoodLabel (Err b) = Unit {0}

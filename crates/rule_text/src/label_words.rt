@@ -1,7 +1,7 @@
-ghost use Rattle.std.specs.Prelude.{◌≡◌, ◌≤◌, ◌∷◌, [], length, MatchOption};
+ghost use Rattle.std.specs.Prelude.{◌≡◌, ◌≤◌, ◌∷◌, [], length, MatchOption, IfSome};
 ghost use Rattle.text_spec.specs.RuleTexts.{all_words, label_answers, only_word, is_dash, list_word};
 ghost use Rattle.rule_text.specs.LeftWords.{left_words, line_word, IsShort};
-ghost use Rattle.rule_text.specs.LabelAnswers.{seen_word, is_sole_dash};
+ghost use Rattle.rule_text.specs.LabelAnswers.{seen_word, is_sole_dash, IsGoodLabel};
 
 use crate::part::Part;
 use crate::rule_line::fault_of_label;
@@ -53,7 +53,8 @@ fn is_only_dash(words: TextWords) -> bool
 
 /// The label that a word is.
 fn read_label<'a>(next: NextWord<'a>) -> Result<Part<'a>, BadLine>
-    ensures { seen_word result ≡ list_word (line_word next.entry) }
+    ensures word { seen_word result ≡ list_word (line_word next.entry) }
+    ensures good { IsGoodLabel result }
 {
     match fault_of_label(next.word.bytes) {
         Some(fault) => Err(BadLine {
@@ -81,8 +82,9 @@ impl<'a> LabelWords<'a> {
     /// The next label, or the first word that is none; None where there is none, and behind a bad
     /// one.
     pub fn next(&mut self) -> Option<Result<Part<'a>, BadLine>>
-        ensures { MatchOption result ((self.old ≡ []) × (self.new ≡ []))
+        ensures answer { MatchOption result ((self.old ≡ []) × (self.new ≡ []))
             (λ r. self.old ≡ seen_word r ∷ self.new) }
+        ensures good { IfSome result IsGoodLabel }
     {
         let Some(next) = self.left.next() else {
             return None;

@@ -1,7 +1,7 @@
 ghost use Rattle.std.specs.Prelude.{◌≡◌, ℕ, Bool, List, map, All, IfOk};
 ghost use Rattle.text_spec.specs.Texts.{lines_from, words_from, whole_lines};
 ghost use Rattle.text_spec.specs.declared.RuleForm.{RuleForm};
-ghost use Rattle.text_spec.specs.RuleTexts.{rule_answers, label_answers, all_words, only_word};
+ghost use Rattle.text_spec.specs.RuleTexts.{rule_answers, subject_answers, label_answers, all_words, only_word};
 ghost use Rattle.rule_text.specs.Slices.{LiesIn, LiesInItsLine, line_part, Adjoin, AreApart, moved_line, moved_word};
 
 /// A law of lines: each is the slice of the text at its place, each begins where the one before
@@ -39,8 +39,9 @@ pub fn rule_fields_are_slices()
         All (λ answer. IfOk answer (LiesInItsLine 1 (lines_from 0 text))) (rule_answers form text) }
 {}
 
-/// A law of lists of labels: each is the slice of the text at its place.
+/// A law of lists of labels and of lines of subjects: each is the slice of the text at its place.
 pub fn labels_are_slices()
     ensures labels { (text : List ℕ) → All (λ answer. IfOk answer (LiesIn 0 text)) (label_answers (all_words text)) }
+    ensures subjects { (text : List ℕ) → All (λ answer. IfOk answer (LiesIn 0 text)) (subject_answers text) }
     ensures only { (text : List ℕ) → IfOk (only_word (all_words text)) (LiesIn 0 text) }
 {}

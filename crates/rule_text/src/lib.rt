@@ -2,9 +2,9 @@
 //! read is a `Part`, a slice of the text with the place of its first byte.
 //!
 //! A contract sees a `Part` as a run of bytes at its place. `split_line`, `split_lines` and
-//! `split_word` are exact to the lines and words of a text, and a reader, `RuleLines` or
-//! `LabelWords`, is the list of answers that it will still give: each good line or label in order,
-//! and the first fault last. `one_word` reads a text of one word.
+//! `split_word` are exact to the lines and words of a text, and a reader, `RuleLines`,
+//! `SubjectLines` or `LabelWords`, is the list of answers that it will still give: each good line or
+//! label in order, and the first fault last. `one_word` reads a text of one word.
 //!
 //! The laws say that each part is the slice of the text at its place, and lies in its own line.
 //!
@@ -18,6 +18,7 @@ mod part;
 mod rule_line;
 mod rule_lines;
 mod short_line;
+mod subject_lines;
 #[cfg(test)]
 mod tests;
 mod text_words;
@@ -31,6 +32,7 @@ pub use laws::{
 pub use lines::{split_line, split_lines};
 pub use part::Part;
 pub use rule_line::RuleLine;
-pub use rule_lines::{RuleLines, first_bad_line};
+pub use rule_lines::RuleLines;
+pub use subject_lines::SubjectLines;
 pub use text_spec::{BadLine, LineFault, RuleForm};
 pub use words::{Separator, split_word};

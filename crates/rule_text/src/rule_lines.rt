@@ -1,6 +1,6 @@
-ghost use Rattle.std.specs.Prelude.{◌≡◌, ◌≤◌, ◌+◌, ◌∷◌, [], length, MatchOption, IfSome, Some, Err, is_ok, true};
+ghost use Rattle.std.specs.Prelude.{◌≡◌, ◌≤◌, ◌+◌, ◌∷◌, [], length, MatchOption, IfSome, Some};
 ghost use Rattle.std.specs.Option.{option_map};
-ghost use Rattle.text_spec.specs.RuleTexts.{line_answer, line_answers, rule_answers, rules_of_text, before_more};
+ghost use Rattle.text_spec.specs.RuleTexts.{line_answer, line_answers, rule_answers, before_more};
 ghost use Rattle.rule_text.specs.Parts.{end_of, lines_of, as_line};
 ghost use Rattle.rule_text.specs.RuleAnswers.{seen, IsGood};
 
@@ -119,18 +119,4 @@ impl<'a> RuleLines<'a> {
             }
         }
     }
-}
-
-/// The first bad line of a text of this form, at most 65,536 bytes; None where no line is bad.
-pub fn first_bad_line(text: &[u8], form: RuleForm) -> Option<BadLine>
-    requires { length text.now ≤ 65536 }
-    ensures { MatchOption result (is_ok (rules_of_text form text.now) ≡ true) (λ bad. rules_of_text form text.now ≡ Err bad) }
-{
-    let mut lines = RuleLines::of(text, form);
-    while let Some(answer) = lines.next() {
-        if let Err(bad) = answer {
-            return Some(bad);
-        }
-    }
-    None
 }

@@ -1,3 +1,4 @@
 pub mod Wrote
 pub mod Rests
 pub mod Whole
+pub mod LoggingModes

@@ -1,5 +1,5 @@
 ghost use Rattle.std.specs.Prelude.{◌≡◌, ◌++◌, map, codes, decimal, IfOk, OnOk};
-ghost use Rattle.record_spec.specs.Entries.{entry_head, check_line as check_text, action_text as text_of_action, pair, checked_pairs, audit_line as audit_text, is_logged as is_logged_check, audit_lines, reply_line as reply_text, entry_lines as lines_of_entry};
+ghost use Rattle.record_spec.specs.Entries.{entry_head, call_verb as verb_of_call, check_line as check_text, action_text as text_of_action, pair, checked_pairs, audit_line as audit_text, is_logged as is_logged_check, audit_lines, reply_line as reply_text, entry_lines as lines_of_entry};
 
 use crate::calls::{call_verb, put_call_words, put_reply};
 use crate::words::{
@@ -98,24 +98,29 @@ fn audit_line(alloc: Global, labels: &Labels, verb: &[u8], v: &Verdict) -> Resul
     Ok(Bytes::from_vec(out))
 }
 
-/// Whether a check is logged: the denied ones are.
-fn is_logged(v: &Verdict) -> bool
-    ensures { result ≡ is_logged_check v.now }
+/// Whether a check is logged in a logging mode.
+fn is_logged(mode: u8, v: &Verdict) -> bool
+    ensures { result ≡ is_logged_check mode v.now }
 {
-    !v.allowed
+    if v.allowed {
+        mode == 2 || mode == 3
+    } else {
+        mode == 1 || mode == 3
+    }
 }
 
 fn push_audit(
     lines: &mut NameList,
     alloc: Global,
     labels: &Labels,
-    verb: &[u8],
-    checks: &[Verdict],
+    mode: u8,
+    entry: &Entry,
 ) -> Result<(), AllocError>
-    ensures { OnOk result (lines.new ≡ lines.old ++ audit_lines labels.now verb.now checks.now) }
+    ensures { OnOk result (lines.new ≡ lines.old ++ audit_lines labels.now mode (verb_of_call entry.now.call) entry.now.checks) }
 {
-    for v in checks {
-        if is_logged(v) {
+    let verb = call_verb(&entry.call);
+    for v in entry.checks.items() {
+        if is_logged(mode, v) {
             lines.push(audit_line(alloc, labels, verb, v)?)?;
         }
     }
@@ -131,20 +136,21 @@ fn reply_line(alloc: Global, reply: &Reply) -> Result<Bytes, AllocError>
     Ok(Bytes::from_vec(out))
 }
 
-/// The lines of an object call: the call, its checks, what is logged of them, and its reply.
+/// The lines of an object call: the call, its checks, what is logged of them in a logging mode, and
+/// its reply.
 pub fn entry_lines(
     alloc: Global,
     labels: &Labels,
+    mode: u8,
     place: u64,
     entry: &Entry,
 ) -> Result<NameList, AllocError>
-    ensures { IfOk result (λ lines. lines ≡ lines_of_entry labels.now place entry.now) }
+    ensures { IfOk result (λ lines. lines ≡ lines_of_entry labels.now mode place entry.now) }
 {
     let mut lines = NameList::new(alloc);
     lines.push(entry_line(alloc, labels, place, entry)?)?;
     push_checks(&mut lines, alloc, labels, entry.checks.items())?;
-    let verb = call_verb(&entry.call);
-    push_audit(&mut lines, alloc, labels, verb, entry.checks.items())?;
+    push_audit(&mut lines, alloc, labels, mode, entry)?;
     lines.push(reply_line(alloc, &entry.reply)?)?;
     Ok(lines)
 }

@@ -12,8 +12,10 @@ mod calls;
 mod entries;
 mod fault;
 mod lines;
+mod modes;
 mod printed;
 mod record;
+mod refusals;
 mod words;
 
 pub use fault::ReportFault;

@@ -1,7 +1,9 @@
 ghost use Rattle.std.specs.Prelude.{◌≡◌, ◌<◌, ◌^◌, ◌++◌, ◌∷◌, [], length, codes, slice_index_or, IfOk, OnOk};
-ghost use Rattle.record_spec.specs.Words.{triple, feed};
+ghost use Rattle.record_spec.specs.Words.{word, triple, feed};
+ghost use Rattle.record_spec.specs.Refusals.{refusal_words};
 ghost use Rattle.record_spec.specs.Show.{op_words, op_line as op_text, batch_head, batch_lines as lines_of_batch, asked_head, answer_line as answer_text, asked_lines as lines_of_asked, task_line as task_text, head_lines as head_of_record, end_line as end_text};
 
+use crate::refusals::put_refusal;
 use crate::words::{
     put_call_number, put_decision, put_label, put_modes, put_number, put_triple, put_version,
     put_word,
@@ -9,6 +11,7 @@ use crate::words::{
 use label_table::Labels;
 use record_spec::{AskedLine, AskedWhat, RunRecord};
 use rules_spec::{Batch, Verdict};
+use script_spec::Refusal;
 use smack_base::{Bytes, NameList, RuleOp};
 use std::alloc::{AllocError, Global};
 
@@ -112,7 +115,28 @@ fn question_line(
     Ok(Bytes::from_vec(out))
 }
 
-/// The lines of an asked line and its answer.
+fn write_line(alloc: Global, asked: &AskedLine, file: &[u8]) -> Result<Bytes, AllocError>
+    ensures { IfOk result (λ line. line ≡ asked_head asked.now ++ codes " write" ++ word file.now ++ feed) }
+{
+    let mut out = Vec::from_slice(alloc, b"q")?;
+    put_call_number(&mut out, asked.task, asked.seq)?;
+    put_version(&mut out, asked.version)?;
+    out.extend_from_slice(b" write")?;
+    put_word(&mut out, file)?;
+    out.extend_from_slice(b"\n")?;
+    Ok(Bytes::from_vec(out))
+}
+
+fn refusal_line(alloc: Global, fault: Refusal) -> Result<Bytes, AllocError>
+    ensures { IfOk result (λ line. line ≡ codes "=" ++ refusal_words fault ++ feed) }
+{
+    let mut out = Vec::from_slice(alloc, b"=")?;
+    put_refusal(&mut out, fault)?;
+    out.extend_from_slice(b"\n")?;
+    Ok(Bytes::from_vec(out))
+}
+
+/// The lines of an asked or refused line and its answer.
 pub fn asked_lines(
     alloc: Global,
     labels: &Labels,
@@ -125,6 +149,10 @@ pub fn asked_lines(
         AskedWhat::Ask(v) => {
             lines.push(question_line(alloc, labels, asked, v)?)?;
             lines.push(answer_line(alloc, v)?)?;
+        }
+        AskedWhat::Refused { file, fault } => {
+            lines.push(write_line(alloc, asked, file.items())?)?;
+            lines.push(refusal_line(alloc, *fault)?)?;
         }
     }
     Ok(lines)

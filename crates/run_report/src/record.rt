@@ -1,10 +1,12 @@
-ghost use Rattle.std.specs.Prelude.{◌≡◌, ◌≤◌, Err, OnOk, OnErr};
+ghost use Rattle.std.specs.Prelude.{◌≡◌, ◌≤◌, ◌<◌, length, Err, OnOk, OnErr};
 ghost use Rattle.outside.specs.Faults.{Rose};
 ghost use Rattle.outside.specs.Sink.{Appends, AppendsFront};
+ghost use Rattle.run_report.specs.Modes.{modes_from};
 ghost use Rattle.record_spec.specs.Show.{joined, lines_in_turn, head_lines as lines_of_head, end_line as end_text, show};
 
 use crate::fault::ReportFault;
 use crate::lines::{end_line, head_lines};
+use crate::modes::logging_modes;
 use crate::printed::Printed;
 use label_table::Labels;
 use outside::{Sink, SinkFault, offer};
@@ -46,15 +48,17 @@ fn put_items<K: Sink, T: Printed>(
     sink: &mut K,
     alloc: Global,
     labels: &Labels,
+    modes: &[u8],
     items: &[T],
 ) -> Result<(), ReportFault>
-    ensures ok { OnOk result (Appends (K.taken sink.old) (K.taken sink.new) (joined (lines_in_turn (T.lines_of labels.now) 1 items.now))) }
-    ensures err { OnErr result (AppendsFront (K.taken sink.old) (K.taken sink.new) (joined (lines_in_turn (T.lines_of labels.now) 1 items.now))) }
+    requires { 0 < length modes.now }
+    ensures ok { OnOk result (Appends (K.taken sink.old) (K.taken sink.new) (joined (lines_in_turn (T.lines_of labels.now modes.now) 1 items.now))) }
+    ensures err { OnErr result (AppendsFront (K.taken sink.old) (K.taken sink.new) (joined (lines_in_turn (T.lines_of labels.now modes.now) 1 items.now))) }
     ensures later { K.faults sink.old ≤ K.faults sink.new }
     ensures failed { result ≡ Err ReportFault.Failed → Rose (K.faults sink.old) (K.faults sink.new) }
 {
     for (i, item) in items.iter().enumerate() {
-        let Ok(lines) = item.lines(alloc, labels, i as u64 + 1) else {
+        let Ok(lines) = item.lines(alloc, labels, modes, i as u64 + 1) else {
             return Err(ReportFault::Memory);
         };
         if let Err(fault) = put_lines(sink, lines.items()) {
@@ -90,9 +94,15 @@ fn put_end<K: Sink>(sink: &mut K, alloc: Global, r: &RunRecord) -> Result<(), Re
     }
 }
 
-/// Writes the text of a record to a sink, line by line. After a fault a front of it was taken;
-/// `Failed` comes only where the sink's count of faults rose.
-pub fn put_record<K: Sink>(alloc: Global, r: &RunRecord, sink: &mut K) -> Result<(), ReportFault>
+/// Writes the text of a record, by the logging modes of its versions.
+fn put_parts<K: Sink>(
+    sink: &mut K,
+    alloc: Global,
+    modes: &[u8],
+    r: &RunRecord,
+) -> Result<(), ReportFault>
+    requires modes { modes.now ≡ modes_from 1 r.now.journal }
+    requires some { 0 < length modes.now }
     ensures ok { OnOk result (Appends (K.taken sink.old) (K.taken sink.new) (show r.now)) }
     ensures err { OnErr result (AppendsFront (K.taken sink.old) (K.taken sink.new) (show r.now)) }
     ensures later { K.faults sink.old ≤ K.faults sink.new }
@@ -101,17 +111,31 @@ pub fn put_record<K: Sink>(alloc: Global, r: &RunRecord, sink: &mut K) -> Result
     if let Err(fault) = put_head(sink, alloc, r) {
         return Err(fault);
     }
-    if let Err(fault) = put_items(sink, alloc, &r.labels, r.journal.items()) {
+    if let Err(fault) = put_items(sink, alloc, &r.labels, modes, r.journal.items()) {
         return Err(fault);
     }
-    if let Err(fault) = put_items(sink, alloc, &r.labels, r.history.items()) {
+    if let Err(fault) = put_items(sink, alloc, &r.labels, modes, r.history.items()) {
         return Err(fault);
     }
-    if let Err(fault) = put_items(sink, alloc, &r.labels, r.asked.items()) {
+    if let Err(fault) = put_items(sink, alloc, &r.labels, modes, r.asked.items()) {
         return Err(fault);
     }
     if let Err(fault) = put_end(sink, alloc, r) {
         return Err(fault);
     }
     Ok(())
+}
+
+/// Writes the text of a record to a sink, line by line. After a fault a front of it was taken;
+/// `Failed` comes only where the sink's count of faults rose.
+pub fn put_record<K: Sink>(alloc: Global, r: &RunRecord, sink: &mut K) -> Result<(), ReportFault>
+    ensures ok { OnOk result (Appends (K.taken sink.old) (K.taken sink.new) (show r.now)) }
+    ensures err { OnErr result (AppendsFront (K.taken sink.old) (K.taken sink.new) (show r.now)) }
+    ensures later { K.faults sink.old ≤ K.faults sink.new }
+    ensures failed { result ≡ Err ReportFault.Failed → Rose (K.faults sink.old) (K.faults sink.new) }
+{
+    match logging_modes(alloc, r.journal.items()) {
+        Ok(modes) => put_parts(sink, alloc, modes.as_slice(), r),
+        Err(_) => Err(ReportFault::Memory),
+    }
 }

@@ -1,11 +1,13 @@
 ghost use Rattle.std.specs.Prelude.{◌≡◌, ◌<◌, ◌+◌, ◌-◌, ◌^◌, ◌++◌, ◌∷◌, [], Ok, Some, length, IfOk, OnOk};
 ghost use Rattle.std.specs.Option.{option_map};
 ghost use Rattle.text_spec.specs.Names.{id_of};
+ghost use Rattle.rules_spec.specs.Creds.{is_effective};
+ghost use Rattle.rules_spec.specs.Rulings.{ruling};
 ghost use Rattle.script_spec.specs.Files.{compiled};
 ghost use Rattle.script_spec.specs.declared.Compiled.TheVariants.{Rules};
 ghost use Rattle.script_text.specs.Lines.{call_seen};
 ghost use Rattle.record_spec.specs.Calls.{task_call as task_call_of, tree_call as tree_call_of};
-ghost use Rattle.record_spec.specs.Replays.{modes_in as modes_of_word, after_line, published, answered, entered, run_first};
+ghost use Rattle.record_spec.specs.Replays.{modes_in as modes_of_word, after_line, published, refused, written, answered, entered, run_first};
 ghost use Rattle.smack_world.specs.Seen.{most_entries};
 ghost use Rattle.script_run.specs.Running.{seen, IsRunning, Runs};
 
@@ -14,10 +16,10 @@ use label_table::Labels;
 use record_spec::{AskedLine, AskedLines, AskedWhat};
 use rule_fold::{Batch, Journal, RuleIndex};
 use script_text::{Line, TaskVerb, TreeVerb, Verb, verb_of};
-use smack_base::{LabelId, Modes, RuleOps};
-use smack_decide::cases;
+use smack_base::{Bytes, Cap, LabelId, Modes, RuleOps};
+use smack_decide::{cases, effective};
 use smack_world::{Call, Stepped, World};
-use smackfs::{Compiled, TextFault, compile};
+use smackfs::{Compiled, Refusal, TextFault, compile};
 use std::alloc::{AllocError, Global};
 
 /// A run so far: the rules of its newest version, the world with the trail of its calls, and what
@@ -44,11 +46,11 @@ impl Runner {
         })
     }
 
-    /// Publishes rule writes as one batch.
+    /// Publishes writes as one batch.
     fn publish(&mut self, line: &Line<'_>, ops: RuleOps) -> Result<(), AllocError>
         requires few { length self.old.journal < 2 ^ 32 - 1 }
         requires running { IsRunning self.old }
-        ensures { OnOk result (Runs self.old self.new (published (seen self.old) (call_seen line.now) (Ok (Rules ops)))) }
+        ensures { OnOk result (Runs self.old self.new (published (seen self.old) (call_seen line.now) ops)) }
     {
         let batch = Batch {
             task: line.task,
@@ -60,17 +62,61 @@ impl Runner {
         Ok(())
     }
 
-    /// Publishes the text of a write, where it is accepted.
+    /// Keeps the line of a refused write.
+    fn refuse(&mut self, alloc: Global, line: &Line<'_>, fault: Refusal) -> Result<(), AllocError>
+        requires running { IsRunning self.old }
+        ensures { OnOk result (Runs self.old self.new (refused (seen self.old) (call_seen line.now) fault)) }
+    {
+        let file = Bytes::from_slice(alloc, line.one.bytes)?;
+        let version = self.rules.version();
+        self.asked.push(AskedLine {
+            task: line.task,
+            seq: line.seq,
+            version,
+            what: AskedWhat::Refused { file, fault },
+        })
+    }
+
+    /// Whether the task may change rules and settings in the newest version.
+    fn may_write(&self) -> bool
+        requires running { IsRunning self.now }
+        ensures { result ≡ is_effective self.now.world.world.creds Cap.MacAdmin (ruling self.now.journal) }
+    {
+        match self.world.cred(0) {
+            Some(cred) => effective(cred, Cap::MacAdmin, &self.rules),
+            None => false,
+        }
+    }
+
+    /// Publishes the writes of a text where the task may, and else keeps the line.
+    fn write_rules(
+        &mut self,
+        alloc: Global,
+        line: &Line<'_>,
+        ops: RuleOps,
+    ) -> Result<(), AllocError>
+        requires few { length self.old.journal < 2 ^ 32 - 1 }
+        requires running { IsRunning self.old }
+        ensures { OnOk result (Runs self.old self.new (written (seen self.old) (call_seen line.now) (Ok (Rules ops)))) }
+    {
+        if self.may_write() {
+            self.publish(line, ops)
+        } else {
+            self.refuse(alloc, line, Refusal::NotPrivileged)
+        }
+    }
+
+    /// Writes the text of a line to its file.
     fn write(&mut self, alloc: Global, labels: &Labels, line: &Line<'_>) -> Result<(), AllocError>
         requires few { length self.old.journal < 2 ^ 32 - 1 }
         requires running { IsRunning self.old }
-        ensures { OnOk result (Runs self.old self.new (published (seen self.old) (call_seen line.now) (compiled labels.now line.now.one.bytes.now line.now.text.bytes.now))) }
+        ensures { OnOk result (Runs self.old self.new (written (seen self.old) (call_seen line.now) (compiled labels.now line.now.one.bytes.now line.now.text.bytes.now))) }
     {
         match compile(alloc, labels, line.one.bytes, line.text.bytes) {
-            Ok(Compiled::Rules(ops)) => self.publish(line, ops),
+            Ok(Compiled::Rules(ops)) => self.write_rules(alloc, line, ops),
             Ok(Compiled::SelfRules(_)) => Ok(()),
             Ok(Compiled::Relabels(_)) => Ok(()),
-            Err(TextFault::Refused(_)) => Ok(()),
+            Err(TextFault::Refused(fault)) => self.refuse(alloc, line, fault),
             Err(TextFault::Memory) => Err(AllocError),
         }
     }

@@ -1,26 +1,42 @@
-use Rattle.std.specs.Prelude.{ℕ, Bool, not, if◌then◌else◌, List, [], ◌∷◌, Option, Some, None, Result, Ok, Err, length, codes, nat_lt}
-use Rattle.std.specs.Str.{bytes_eq}
-use Rattle.smack_base.specs.Modes.{modes_of}
+use Rattle.std.specs.Prelude.{ℕ, if◌then◌else◌, List, [], ◌∷◌, Option, Some, None, Result, Ok, Err, length, nat_lt}
 use Rattle.smack_base.specs.declared.ids.LabelId.{LabelId}
 use Rattle.smack_base.specs.declared.rule_op.RuleOp.{RuleOp}
-use Rattle.smack_base.specs.declared.rule_op.RuleOp.TheVariants.{Set}
+use Rattle.smack_base.specs.declared.rule_op.RuleOp.TheVariants.{Set, Change, Revoke, OnlyClear, OnlyAdd, Ambient, Ptrace, Logging}
+use Rattle.text_spec.specs.Texts.{Placed}
 use Rattle.text_spec.specs.declared.BadLine.{BadLine as BadLineOf}
-use Rattle.text_spec.specs.declared.RuleForm.TheVariants.{Long}
-use Rattle.text_spec.specs.RuleTexts.{RuleWords, rules_of_text}
 use Rattle.text_spec.specs.Names.{id_of}
+use Rattle.script_spec.specs.declared.RuleFile.{RuleFile}
 use Rattle.script_spec.specs.declared.Refusal.{Refusal}
 use Rattle.script_spec.specs.declared.Refusal.TheVariants.{NoSuchFile, TooLong, BadLine, UnknownLabel}
 use Rattle.script_spec.specs.declared.Compiled.{Compiled}
 use Rattle.script_spec.specs.declared.Compiled.TheVariants.{Rules}
+use Rattle.script_spec.specs.Writes.{NamedWrite, NamedSet, NamedChange, NamedRevoke, NamedClear, NamedAdd, NamedAmbient, NamedPtrace, NamedLogging, rule_file, line_of, writes_of_text}
 
--- the write that a line of load2 is, where the table has its labels
-abbrev pub set_by_ids : RuleWords → Option LabelId → Option LabelId → Result RuleOp Refusal
-set_by_ids r (Some s) (Some o) = Ok (Set s o (modes_of r.allow.bytes))
-set_by_ids r (Some s) None = Err (UnknownLabel r.line)
-set_by_ids r None o = Err (UnknownLabel r.line)
+-- a write by the ids of its labels, where the table has them
+abbrev pub by_id : ℕ → Option LabelId → (LabelId → RuleOp) → Result RuleOp Refusal
+by_id line None make = Err (UnknownLabel line)
+by_id line (Some l) make = Ok (make l)
 
-abbrev pub set_of : List (List ℕ) → RuleWords → Result RuleOp Refusal
-set_of table r = set_by_ids r (id_of table r.subject.bytes) (id_of table r.object.bytes)
+abbrev pub by_ids : ℕ → Option LabelId → Option LabelId → (LabelId → LabelId → RuleOp) → Result RuleOp Refusal
+by_ids line None o make = Err (UnknownLabel line)
+by_ids line (Some s) None make = Err (UnknownLabel line)
+by_ids line (Some s) (Some o) make = Ok (make s o)
+
+abbrev pub of_label : List (List ℕ) → List ℕ → Placed → (LabelId → RuleOp) → Result RuleOp Refusal
+of_label table text l make = by_id (line_of text l.at) (id_of table l.bytes) make
+
+abbrev pub of_pair : List (List ℕ) → List ℕ → Placed → Placed → (LabelId → LabelId → RuleOp) → Result RuleOp Refusal
+of_pair table text s o make = by_ids (line_of text s.at) (id_of table s.bytes) (id_of table o.bytes) make
+
+abbrev pub op_of : List (List ℕ) → List ℕ → NamedWrite → Result RuleOp Refusal
+op_of table text (NamedSet s o m) = of_pair table text s o (λ a b. Set a b m)
+op_of table text (NamedChange s o allow deny) = of_pair table text s o (λ a b. Change a b allow deny)
+op_of table text (NamedRevoke s) = of_label table text s (λ l. Revoke l)
+op_of table text NamedClear = Ok OnlyClear
+op_of table text (NamedAdd p) = of_label table text p (λ l. OnlyAdd l)
+op_of table text (NamedAmbient p) = of_label table text p (λ l. Ambient l)
+op_of table text (NamedPtrace n) = Ok (Ptrace n)
+op_of table text (NamedLogging n) = Ok (Logging n)
 
 -- all the writes, or the first refusal
 abbrev pub with_first_op : Result RuleOp Refusal → Result (List RuleOp) Refusal → Result (List RuleOp) Refusal
@@ -28,30 +44,27 @@ with_first_op (Err e) more = Err e
 with_first_op (Ok op) (Err e) = Err e
 with_first_op (Ok op) (Ok ops) = Ok (op ∷ ops)
 
-abbrev pub sets_of : List (List ℕ) → List RuleWords → Result (List RuleOp) Refusal
-sets_of table [] = Ok []
-sets_of table (r ∷ rs) = with_first_op (set_of table r) (sets_of table rs)
+abbrev pub ops_of : List (List ℕ) → List ℕ → List NamedWrite → Result (List RuleOp) Refusal
+ops_of table text [] = Ok []
+ops_of table text (w ∷ ws) = with_first_op (op_of table text w) (ops_of table text ws)
 
 -- a bad line is refused before an unknown label is
-abbrev pub sets_of_rules : List (List ℕ) → Result (List RuleWords) BadLineOf → Result (List RuleOp) Refusal
-sets_of_rules table (Err bad) = Err (BadLine bad)
-sets_of_rules table (Ok rules) = sets_of table rules
+abbrev pub ops_of_writes : List (List ℕ) → List ℕ → Result (List NamedWrite) BadLineOf → Result (List RuleOp) Refusal
+ops_of_writes table text (Err bad) = Err (BadLine bad)
+ops_of_writes table text (Ok writes) = ops_of table text writes
 
 abbrev pub as_rules : Result (List RuleOp) Refusal → Result Compiled Refusal
 as_rules (Ok ops) = Ok (Rules ops)
 as_rules (Err e) = Err e
 
--- what a text of at most 65,536 bytes becomes in each file
-abbrev pub compiled_text : List (List ℕ) → List ℕ → List ℕ → Result Compiled Refusal
-compiled_text table file text = as_rules (sets_of_rules table (rules_of_text Long text))
+-- what a text of at most 65,536 bytes becomes in a file
+abbrev pub compiled_text : List (List ℕ) → RuleFile → List ℕ → Result Compiled Refusal
+compiled_text table file text = as_rules (ops_of_writes table text (writes_of_text file text))
 
--- whether there is such a file
-abbrev pub is_file : List ℕ → Bool
-is_file name = bytes_eq name (codes "load2")
+abbrev pub compiled_in : List (List ℕ) → Option RuleFile → List ℕ → Result Compiled Refusal
+compiled_in table None text = Err NoSuchFile
+compiled_in table (Some file) text = if nat_lt 65536 (length text) then Err TooLong else compiled_text table file text
 
 -- what a text becomes that is written to a file, or why it is refused
 abbrev pub compiled : List (List ℕ) → List ℕ → List ℕ → Result Compiled Refusal
-compiled table file text =
-    if not (is_file file) then Err NoSuchFile
-    else (if nat_lt 65536 (length text) then Err TooLong
-    else compiled_text table file text)
+compiled table name text = compiled_in table (rule_file name) text

@@ -1,10 +1,7 @@
-use Rattle.std.specs.Prelude.{ℕ, ◌+◌, ◌-◌, Bool, true, false, ◌&&◌, ◌||◌, not, ◌==◌, if◌then◌else◌, List, [], ◌∷◌, ◌++◌, Option, Some, None, Result, Ok, Err, is_ok, length, take, codes, slice_index_or, nat_lt, nat_le}
+use Rattle.std.specs.Prelude.{ℕ, ◌+◌, ◌-◌, Bool, true, false, ◌&&◌, ◌||◌, not, ◌==◌, if◌then◌else◌, List, [], ◌∷◌, ◌++◌, Option, Some, None, Result, Ok, Err, length, take, codes, slice_index_or, nat_lt, nat_le}
 use Rattle.std.specs.List.{flat_map}
 use Rattle.std.specs.Str.{bytes_eq}
-use Rattle.text_spec.specs.declared.BadLine.{BadLine}
-use Rattle.text_spec.specs.declared.RuleForm.TheVariants.{Long}
 use Rattle.text_spec.specs.Texts.{Placed, TextLine, lines_from, words_from, whole_line, whole_lines, is_space}
-use Rattle.text_spec.specs.RuleTexts.{RuleWords, rules_of_text}
 use Rattle.text_spec.specs.Names.{predefined, with_names}
 use Rattle.script_spec.specs.declared.Verb.{Verb}
 use Rattle.script_spec.specs.declared.Verb.TheVariants.{Write}
@@ -15,6 +12,7 @@ use Rattle.script_spec.specs.declared.What.TheVariants.{Bytes, Labels}
 use Rattle.script_spec.specs.declared.ScriptFault.{ScriptFault}
 use Rattle.script_spec.specs.declared.ScriptFault.TheVariants.{Malformed, TooLarge}
 use Rattle.script_spec.specs.Words.{verb_of, kinds_of, are_of_kinds, number_of}
+use Rattle.script_spec.specs.Writes.{rule_file, names_of_text}
 
 -- A call of a script: its task, its number among the calls of the task, from 1, the number of its line, from 1, its
 -- words behind the task, and its text. A word or a text that it does not have is empty.
@@ -122,14 +120,9 @@ are_words [] = false
 are_words (task ∷ []) = false
 are_words (task ∷ verb ∷ words) = bytes_eq task.bytes (codes "init") && are_words_of (verb_of verb.bytes) words
 
--- the text of an item is all there, and no line of it is bad
+-- the text of an item is all there
 abbrev pub has_text : Item → Bool
-has_text i = nat_le (text_count i.words) (length i.after) && is_ok (rules_of_text Long (text_bytes i))
-
--- the labels of a text that is accepted
-abbrev pub rule_labels : Result (List RuleWords) BadLine → List (List ℕ)
-rule_labels (Err bad) = []
-rule_labels (Ok rules) = flat_map (λ r. r.subject.bytes ∷ r.object.bytes ∷ []) rules
+has_text i = nat_le (text_count i.words) (length i.after)
 
 abbrev pub stands_for_label : WordKind → Bool
 stands_for_label Label = true
@@ -144,14 +137,14 @@ label_words (k ∷ ks) (w ∷ ws) = if stands_for_label k then w.bytes ∷ label
 abbrev pub words_behind : ScriptLine → List Placed
 words_behind l = l.one ∷ l.two ∷ l.three ∷ []
 
--- the labels of the text of a call
-abbrev pub text_labels : Verb → List ℕ → List (List ℕ)
-text_labels Write text = rule_labels (rules_of_text Long text)
-text_labels _ text = []
+-- the labels of the text of a call, where its file accepts it whole
+abbrev pub text_labels : Verb → List ℕ → List ℕ → List (List ℕ)
+text_labels Write file text = names_of_text (rule_file file) text
+text_labels _ file text = []
 
 abbrev pub labels_by : Option Verb → ScriptLine → List (List ℕ)
 labels_by None l = []
-labels_by (Some verb) l = label_words (kinds_of verb) (words_behind l) ++ text_labels verb l.text.bytes
+labels_by (Some verb) l = label_words (kinds_of verb) (words_behind l) ++ text_labels verb l.one.bytes l.text.bytes
 
 -- the labels of a call, in order
 abbrev pub labels_of : ScriptLine → List (List ℕ)

@@ -1,3 +1,4 @@
 pub mod Words
+pub mod Writes
 pub mod Files
 pub mod Grammar

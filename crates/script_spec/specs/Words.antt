@@ -1,4 +1,4 @@
-use Rattle.std.specs.Prelude.{ℕ, ◌+◌, ◌-◌, ◌*◌, Bool, true, false, ◌&&◌, not, ◌==◌, if◌then◌else◌, List, [], ◌∷◌, Option, Some, None, is_ok, is_some, codes, drop, nat_lt, nat_le}
+use Rattle.std.specs.Prelude.{ℕ, ◌+◌, ◌-◌, ◌*◌, Bool, true, false, ◌&&◌, not, ◌==◌, if◌then◌else◌, List, [], ◌∷◌, Option, Some, None, is_ok, is_some, codes, length, drop, nat_lt, nat_le}
 use Rattle.std.specs.List.{list_all, list_any}
 use Rattle.std.specs.Map.{lookup}
 use Rattle.std.specs.Str.{bytes_eq}
@@ -6,7 +6,7 @@ use Rattle.smack_base.specs.declared.cap.Cap.{Cap}
 use Rattle.smack_base.specs.declared.cap.Cap.TheVariants.{MacAdmin, MacOverride, SysPtrace}
 use Rattle.smack_base.specs.Labels.{is_label}
 use Rattle.smack_base.specs.Modes.{is_modes}
-use Rattle.smack_base.specs.Paths.{path_of, is_slash}
+use Rattle.smack_base.specs.Paths.{path_of, is_slash, is_name_byte}
 use Rattle.text_spec.specs.Texts.{Placed}
 use Rattle.script_spec.specs.declared.TaskVerb.{TaskVerb}
 use Rattle.script_spec.specs.declared.TaskVerb.TheVariants.{Relabel, Drop}
@@ -84,11 +84,20 @@ cap_of name = lookup (bytes_eq name) capabilities
 abbrev pub is_root_path : List ℕ → Bool
 is_root_path word = is_ok (path_of word) && not (list_any is_slash (drop 1 word))
 
--- whether a word is of a kind; the only file so far is load2
+-- the files whose texts are calls on the writing task; no script has them yet
+abbrev pub self_files : List (List ℕ)
+self_files = codes "load-self2" ∷ codes "load-self" ∷ codes "relabel-self" ∷ []
+
+-- a name of a file: 1 to 32 bytes from ! to ~, and none of those
+abbrev pub is_file_name : List ℕ → Bool
+is_file_name word =
+    nat_le 1 (length word) && nat_le (length word) 32 && list_all is_name_byte word && not (list_any (bytes_eq word) self_files)
+
+-- whether a word is of a kind
 abbrev pub is_of_kind : WordKind → List ℕ → Bool
 is_of_kind Label word = is_label word
 is_of_kind Modes word = is_modes word
-is_of_kind File word = bytes_eq word (codes "load2")
+is_of_kind File word = is_file_name word
 is_of_kind Number word = is_some (number_of word)
 is_of_kind Path word = is_root_path word
 is_of_kind Capability word = is_some (cap_of word)

@@ -1,8 +1,9 @@
 //! What scripts mean: the verbs and the kinds of their words, what the text of a smackfs file
 //! becomes, and the grammar. Plain data; the definitions stand in `specs/`.
 //!
-//! `Words` has the table of verbs and what each kind of word is. `Files` says what a text that is
-//! written to a smackfs file becomes, or why it is refused. `Grammar` says which lists of bytes
+//! `Words` has the table of verbs and what each kind of word is. `Writes` says which writes the text
+//! of a smackfs file is, its labels by name, or which is its first bad line; `Files` says what it
+//! becomes with a label table, or why it is refused. `Grammar` says which lists of bytes
 //! are a script, and for any other list which line is the first bad one, and why.
 #![tactic(auto)]
 
@@ -59,6 +60,28 @@ pub enum WordKind {
     Path,
     /// The name of a capability.
     Capability,
+}
+
+/// The smackfs files whose text becomes writes to rules and settings (Smack guide, its list of
+/// smackfs files).
+#[derive(Clone, Copy, Debug, PartialEq, Eq)]
+pub enum RuleFile {
+    /// `load2`: lines of subject, object and access.
+    Load2,
+    /// `load`: the same in lines of 53 bytes.
+    Load,
+    /// `change-rule`: lines of subject, object, modes to add and modes to take away.
+    ChangeRule,
+    /// `revoke-subject`: lines of one subject.
+    RevokeSubject,
+    /// `onlycap`: a list of labels, or a dash.
+    Onlycap,
+    /// `ambient`: one label.
+    Ambient,
+    /// `ptrace`: one number from 0 to 2.
+    Ptrace,
+    /// `logging`: one number from 0 to 3.
+    Logging,
 }
 
 /// Why a line is not in the grammar of scripts.

@@ -17,7 +17,7 @@ use Rattle.script_spec.specs.declared.TreeVerb.TheVariants.{Create, Unlink, List
 use Rattle.script_spec.specs.Words.{are_of_kinds, is_of_kind, kinds_of}
 use Rattle.script_spec.specs.Grammar.{label_words, stands_for_label, word_at, absent}
 use Rattle.script_text.specs.HasLabels.{AreLabels}
-use Rattle.script_text.proofs.RuleLabels.{with_name-longer, with_names-longer}
+use Rattle.script_text.proofs.WriteNames.{with_name-longer, with_names-longer}
 
 and_left : (x y : Bool) → (x && y) ≡ true → x ≡ true
 and_left true y e = refl

@@ -1,6 +1,6 @@
 pub mod Numbers
 pub mod KindsOfWords
-pub mod RuleLabels
+pub mod WriteNames
 pub mod LabelWords
 pub mod Spelling
 pub mod ReadingOn

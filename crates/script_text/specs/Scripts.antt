@@ -1,6 +1,4 @@
 use Rattle.std.specs.Prelude.{◌≡◌, ◌≤◌, ℕ, ◌+◌, Bool, true, ◌&&◌, List, ◌++◌, [], ◌∷◌, not, Option, Some, None, Result, Ok, Err, is_ok, length, map, take, drop, nat_le, nat_lt}
-use Rattle.text_spec.specs.RuleTexts.{rules_of_text}
-use Rattle.text_spec.specs.declared.RuleForm.TheVariants.{Long}
 use Rattle.text_spec.specs.Texts.{TextLine, whole_lines, is_space}
 use Rattle.rule_text.specs.declared.part.Part.{Part}
 use Rattle.rule_text.specs.Parts.{lines_of, words_of, end_of, Fits}
@@ -41,16 +39,11 @@ HasFault fault Memory = Unit {0}
 HasFault fault (Malformed line cause) = fault ≡ Some (Malformed line cause)
 HasFault fault (TooLarge what) = fault ≡ Some (TooLarge what)
 
--- the first lines are so many, and a text without a bad line
-abbrev pub has_good_text : ℕ → List TextLine → Bool
-has_good_text count lines = nat_le count (length lines) && is_ok (rules_of_text Long (whole_lines (take count lines)))
-
 -- a part is the text of the first lines of another, and a part is what follows it
 pub record IsTextOf (count : ℕ) (after text rest : Part) : Type 0 where
   pub at : text.at ≡ after.at
   pub bytes : text.bytes.now ≡ whole_lines (take count (lines_of after))
   pub behind : lines_of rest ≡ drop count (lines_of after)
-  pub good : is_ok (rules_of_text Long text.bytes.now) ≡ true
   pub ends : end_of rest ≡ end_of after
   pub fewer : count + length rest.bytes.now ≤ length after.bytes.now
   pub short : length text.bytes.now ≤ length after.bytes.now

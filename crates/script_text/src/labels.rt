@@ -1,20 +1,20 @@
-ghost use Rattle.std.specs.Prelude.{◌≡◌, ◌<◌, ◌≤◌, ◌∷◌, [], length, map, true, Err, OnOk};
+ghost use Rattle.std.specs.Prelude.{◌≡◌, ◌<◌, ◌≤◌, ◌∷◌, [], length, map, true, is_ok, Err, OnOk};
 ghost use Rattle.smack_base.specs.Labels.{is_label};
 ghost use Rattle.text_spec.specs.Names.{with_name, with_names};
-ghost use Rattle.text_spec.specs.RuleTexts.{rules_of_text};
-ghost use Rattle.text_spec.specs.declared.RuleForm.TheVariants.{Long};
 ghost use Rattle.rule_text.specs.Parts.{placed};
-ghost use Rattle.script_spec.specs.Grammar.{labels_of, label_words, stands_for_label as is_kind_of_label, rule_labels, text_labels, most_labels};
+ghost use Rattle.script_spec.specs.Writes.{rule_file as rule_file_of_name, names_of, writes_of_text, names_of_writes, names_of_text};
+ghost use Rattle.script_spec.specs.Grammar.{labels_of, label_words, stands_for_label as is_kind_of_label, text_labels, most_labels};
+ghost use Rattle.smackfs.specs.Named.{named, HasGoodNames};
 ghost use Rattle.script_text.specs.Lines.{call_seen};
-ghost use Rattle.script_text.specs.HasLabels.{AreLabels, HasLabels, IsRuleText, IsTextOfVerb};
+ghost use Rattle.script_text.specs.HasLabels.{AreLabels, HasLabels};
 
 use crate::line::Line;
 use crate::words::{kinds_of, verb_of};
 use label_table::{Labels, LabelsFault};
-use rule_text::{Part, RuleLines};
-use script_spec::{Verb, WordKind};
+use rule_text::Part;
+use script_spec::{RuleFile, Verb, WordKind};
 use smack_base::Label;
-use text_spec::RuleForm;
+use smackfs::{NamedOp, TextWrites, first_bad, rule_file};
 
 /// Adds the label that a text is.
 fn add_label(labels: &mut Labels, text: &[u8]) -> Result<(), LabelsFault>
@@ -48,23 +48,66 @@ fn add_both(labels: &mut Labels, one: &[u8], two: &[u8]) -> Result<(), LabelsFau
     Ok(())
 }
 
-/// Adds the labels of a text of rules.
-fn add_rule_labels(labels: &mut Labels, text: &[u8]) -> Result<(), LabelsFault>
-    requires text { IsRuleText text.now }
+/// Adds the labels that a write names.
+fn add_names(labels: &mut Labels, op: NamedOp<'_>) -> Result<(), LabelsFault>
+    requires good { HasGoodNames (named op) }
     requires limit { length labels.old ≤ most_labels }
-    ensures ok { OnOk result (labels.new ≡ with_names labels.old (rule_labels (rules_of_text Long text.now))) }
+    ensures ok { OnOk result (labels.new ≡ with_names labels.old (names_of (named op.entry))) }
     ensures limit { OnOk result (length labels.new ≤ most_labels) }
-    ensures many { result ≡ Err LabelsFault.TooMany → most_labels < length (with_names labels.old (rule_labels (rules_of_text Long text.now))) }
+    ensures many { result ≡ Err LabelsFault.TooMany → most_labels < length (with_names labels.old (names_of (named op.entry))) }
 {
-    let mut lines = RuleLines::of(text, RuleForm::Long);
-    while let Some(answer) = lines.next() {
-        if let Ok(line) = answer {
-            if let Err(fault) = add_both(labels, line.subject.bytes, line.object.bytes) {
+    match op {
+        NamedOp::Set { s, o, m: _ } => add_both(labels, s.bytes, o.bytes),
+        NamedOp::Change {
+            s,
+            o,
+            allow: _,
+            deny: _,
+        } => add_both(labels, s.bytes, o.bytes),
+        NamedOp::Revoke { s } => add_label(labels, s.bytes),
+        NamedOp::OnlyClear => Ok(()),
+        NamedOp::OnlyAdd { l } => add_label(labels, l.bytes),
+        NamedOp::Ambient { l } => add_label(labels, l.bytes),
+        NamedOp::Ptrace { n: _ } => Ok(()),
+        NamedOp::Logging { n: _ } => Ok(()),
+    }
+}
+
+/// Adds the labels of a text without a bad line.
+fn add_good_names(labels: &mut Labels, file: RuleFile, text: &[u8]) -> Result<(), LabelsFault>
+    requires short { length text.now ≤ 65536 }
+    requires good { is_ok (writes_of_text file text.now) ≡ true }
+    requires limit { length labels.old ≤ most_labels }
+    ensures ok { OnOk result (labels.new ≡ with_names labels.old (names_of_writes (writes_of_text file text.now))) }
+    ensures limit { OnOk result (length labels.new ≤ most_labels) }
+    ensures many { result ≡ Err LabelsFault.TooMany → most_labels < length (with_names labels.old (names_of_writes (writes_of_text file text.now))) }
+{
+    let mut writes = TextWrites::of(file, text);
+    while let Some(answer) = writes.next() {
+        if let Ok(op) = answer {
+            if let Err(fault) = add_names(labels, op) {
                 return Err(fault);
             }
         }
     }
     Ok(())
+}
+
+/// Adds the labels of a text that is written to a file, where the file accepts it whole.
+fn add_file_labels(labels: &mut Labels, name: &[u8], text: &[u8]) -> Result<(), LabelsFault>
+    requires short { length text.now ≤ 65536 }
+    requires limit { length labels.old ≤ most_labels }
+    ensures ok { OnOk result (labels.new ≡ with_names labels.old (names_of_text (rule_file_of_name name.now) text.now)) }
+    ensures limit { OnOk result (length labels.new ≤ most_labels) }
+    ensures many { result ≡ Err LabelsFault.TooMany → most_labels < length (with_names labels.old (names_of_text (rule_file_of_name name.now) text.now)) }
+{
+    let Some(file) = rule_file(name) else {
+        return Ok(());
+    };
+    match first_bad(file, text) {
+        Some(_) => Ok(()),
+        None => add_good_names(labels, file, text),
+    }
 }
 
 fn stands_for_label(kind: WordKind) -> bool
@@ -97,15 +140,20 @@ fn add_label_words(
 }
 
 /// Adds the labels of the text of a call.
-fn add_text_labels(labels: &mut Labels, verb: Verb, text: &[u8]) -> Result<(), LabelsFault>
-    requires text { IsTextOfVerb verb text.now }
+fn add_text_labels(
+    labels: &mut Labels,
+    verb: Verb,
+    name: &[u8],
+    text: &[u8],
+) -> Result<(), LabelsFault>
+    requires short { length text.now ≤ 65536 }
     requires limit { length labels.old ≤ most_labels }
-    ensures ok { OnOk result (labels.new ≡ with_names labels.old (text_labels verb text.now)) }
+    ensures ok { OnOk result (labels.new ≡ with_names labels.old (text_labels verb name.now text.now)) }
     ensures limit { OnOk result (length labels.new ≤ most_labels) }
-    ensures many { result ≡ Err LabelsFault.TooMany → most_labels < length (with_names labels.old (text_labels verb text.now)) }
+    ensures many { result ≡ Err LabelsFault.TooMany → most_labels < length (with_names labels.old (text_labels verb name.now text.now)) }
 {
     match verb {
-        Verb::Write => add_rule_labels(labels, text),
+        Verb::Write => add_file_labels(labels, name, text),
         Verb::Ask => Ok(()),
         Verb::Task(_) => Ok(()),
         Verb::Tree(_) => Ok(()),
@@ -127,5 +175,5 @@ pub fn add_labels(labels: &mut Labels, call: &Line<'_>) -> Result<(), LabelsFaul
     if let Err(fault) = add_label_words(labels, kinds_of(verb), &words) {
         return Err(fault);
     }
-    add_text_labels(labels, verb, call.text.bytes)
+    add_text_labels(labels, verb, call.one.bytes, call.text.bytes)
 }

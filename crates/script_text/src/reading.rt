@@ -1,20 +1,19 @@
-ghost use Rattle.std.specs.Prelude.{◌≡◌, ◌≤◌, ◌<◌, ◌+◌, ◌^◌, ◌∷◌, ◌++◌, [], length, map, drop, slice_index_or, vec_len, None, Err, MatchResult, MatchOption, IfSome, OnOk, IfOk, IfErr, true, false};
+ghost use Rattle.std.specs.Prelude.{◌≡◌, ◌≤◌, ◌<◌, ◌+◌, ◌^◌, ◌∷◌, ◌++◌, [], length, map, drop, slice_index_or, vec_len, nat_le, None, Err, MatchResult, MatchOption, IfSome, OnOk, IfOk, IfErr, true, false};
 ghost use Rattle.text_spec.specs.Texts.{is_space, Placed};
 ghost use Rattle.rule_text.specs.Parts.{Fits, placed, lines_of, words_of, end_of, as_line};
 ghost use Rattle.script_spec.specs.Grammar.{word_at, text_count as text_count_of_words, labels_of, item_fault, items, calls_of, known_first, is_skipped as is_skipped_line, most_bytes, most_labels};
 ghost use Rattle.text_spec.specs.Names.{with_names};
 ghost use Rattle.script_text.specs.Lines.{call_seen, call_by};
 ghost use Rattle.script_text.specs.HasLabels.{HasLabels};
-ghost use Rattle.script_text.specs.Scripts.{known_of, calls_seen, HasFault, has_good_text, IsTextOf, IsWithin, IsSpelled, IsAdded, IsItemRead, IsWhole, Fails, item_found, words_fault, labels_fault};
+ghost use Rattle.script_text.specs.Scripts.{known_of, calls_seen, HasFault, IsTextOf, IsWithin, IsSpelled, IsAdded, IsItemRead, IsWhole, Fails, item_found, words_fault, labels_fault};
 
 use crate::labels::add_labels;
 use crate::line::Line;
 use crate::words::{are_words, spaced_words, text_count};
 use label_table::{Labels, LabelsFault};
-use rule_text::{Part, Separator, first_bad_line, split_line, split_lines, split_word};
+use rule_text::{Part, Separator, split_line, split_lines, split_word};
 use script_spec::{Cause, ScriptFault, What};
 use std::alloc::Global;
-use text_spec::RuleForm;
 
 /// The calls that are read so far, and their label table.
 #[derive(Drop)]
@@ -41,19 +40,16 @@ fn word<'a>(words: &[Part<'a>], k: usize) -> Part<'a>
 }
 
 /// The text of a call, which is so many of the lines behind it, and what follows it; None where
-/// fewer follow, or one of them is bad.
-fn good_text<'a>(count: u32, after: Part<'a>) -> Option<(Part<'a>, Part<'a>)>
+/// fewer follow.
+fn text_of<'a>(count: u32, after: Part<'a>) -> Option<(Part<'a>, Part<'a>)>
     requires { end_of after ≤ most_bytes }
-    ensures text { MatchOption result (has_good_text count (lines_of after.entry) ≡ false) (λ p. has_good_text count (lines_of after.entry) ≡ true) }
+    ensures text { MatchOption result (nat_le count (length (lines_of after.entry)) ≡ false) (λ _. nat_le count (length (lines_of after.entry)) ≡ true) }
     ensures is { IfSome result (λ p. IsTextOf count after.entry p.0 p.1) }
 {
     let Some((text, rest)) = split_lines(count, after) else {
         return None;
     };
-    match first_bad_line(text.bytes, RuleForm::Long) {
-        Some(_) => None,
-        None => Some((text, rest)),
-    }
+    Some((text, rest))
 }
 
 /// The call of these words and this text.
@@ -104,7 +100,7 @@ fn spell<'a>(alloc: Global, seq: u32, found: Found<'a>) -> Result<Spelled<'a>, S
         return Err(bad);
     }
     let count = text_count(words.as_slice());
-    let Some((text, rest)) = good_text(count, found.after) else {
+    let Some((text, rest)) = text_of(count, found.after) else {
         return Err(bad);
     };
     Ok(Spelled {

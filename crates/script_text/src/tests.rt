@@ -21,6 +21,29 @@ fn words_and_texts_at_their_places(rt: HostRuntime) -> Result<(), Fail> {
     Ok(())
 }
 
+/// Scripts, and how many labels they have beside the predefined ones.
+const LABELLED: [(&[u8], u32); 8] = [
+    (b"init write load2 2\nA B r\nB C r\n", 3),
+    (b"init write load2 2\nA B r\nB C z\n", 0),
+    (b"init write load3 1\nA B r\n", 0),
+    (b"init write revoke-subject 1\nA\ninit relabel A", 1),
+    (b"init write onlycap 1\nA B A _\n", 2),
+    (b"init write onlycap 1\n-\n", 0),
+    (b"init write ambient 1\nA\ninit ask B _ r", 2),
+    (b"init write ptrace 1\n1\ninit create /A", 0),
+];
+
+#[test]
+fn labels_of_words_and_texts(rt: HostRuntime) -> Result<(), Fail> {
+    for (bytes, count) in LABELLED {
+        match Script::read(rt.alloc(), bytes) {
+            Ok(script) => assert!(rt; script.labels()?.len() == 5 + count),
+            Err(_) => assert!(rt; false),
+        }
+    }
+    Ok(())
+}
+
 #[test]
 fn the_first_bad_line(rt: HostRuntime) -> Result<(), Fail> {
     let rows = [
@@ -28,10 +51,11 @@ fn the_first_bad_line(rt: HostRuntime) -> Result<(), Fail> {
         (b"init ask A B r\n# c\ninit ask A B z\n", 3),
         (b"B ask A B r", 1),
         (b"init write load2 2\nA B r", 1),
-        (b"init write load2 1\nA B z\n", 1),
+        (b"init write load-self2 1\nA B r\n", 1),
         (b"init write load2 01\nA B r\n", 1),
         (b"init write load2 4294967296\nA B r\n", 1),
-        (b"init write load 1\nA B r\n", 1),
+        (b"init write abcdefghijklmnopqrstuvwxyz0123456 0", 1),
+        (b"init create /a/b", 1),
         (b"init ask A B\tr", 1),
         (b"init ask A B r x", 1),
         (b"init ask A B r\r\n", 1),

@@ -1,9 +1,10 @@
 ghost use Rattle.std.specs.Prelude.{true, ◌≡◌, ◌<◌, ◌≤◌, ◌^◌, ◌+◌, ◌*◌, ◌∷◌, ◌++◌, [], length, map, drop, IfOk, IfSome, MatchOption, All};
 ghost use Rattle.std.specs.List.{list_all, list_any};
-ghost use Rattle.smack_base.specs.Paths.{is_slash as is_slash_byte};
+ghost use Rattle.std.specs.Str.{bytes_eq};
+ghost use Rattle.smack_base.specs.Paths.{is_slash as is_slash_byte, is_name_byte};
 ghost use Rattle.text_spec.specs.Texts.{is_space};
 ghost use Rattle.rule_text.specs.Parts.{Fits, placed, words_of};
-ghost use Rattle.script_spec.specs.Words.{verb_of as verb_of_name, kinds_of as kinds_of_verb, task_kinds as kinds_of_task_verb, tree_kinds as kinds_of_tree_verb, cap_of as cap_of_name, is_root_path as is_word_root_path, number_of as number_of_word, is_decimal as is_decimal_word, value_from, is_digit as is_digit_byte, is_of_kind as is_word_of_kind, are_of_kinds as are_words_of_kinds};
+ghost use Rattle.script_spec.specs.Words.{verb_of as verb_of_name, kinds_of as kinds_of_verb, task_kinds as kinds_of_task_verb, tree_kinds as kinds_of_tree_verb, cap_of as cap_of_name, is_root_path as is_word_root_path, self_files, is_file_name as is_word_file_name, number_of as number_of_word, is_decimal as is_decimal_word, value_from, is_digit as is_digit_byte, is_of_kind as is_word_of_kind, are_of_kinds as are_words_of_kinds};
 ghost use Rattle.script_spec.specs.Grammar.{are_words as are_words_of_call, text_count as text_count_of_words};
 
 use rule_text::{Part, Separator, split_word};
@@ -163,6 +164,34 @@ pub fn number_of(word: &[u8]) -> Option<u32>
     }
 }
 
+fn is_printed(b: u8) -> bool
+    ensures { result ≡ is_name_byte b }
+{
+    b >= 0x21 && b <= 0x7E
+}
+
+fn are_printed(word: &[u8]) -> bool
+    ensures { result ≡ list_all is_name_byte word.now }
+{
+    word.iter().all(|b| is_printed(*b))
+}
+
+/// Whether a word names a file whose text is a call on the writing task.
+fn is_self_file(word: &[u8]) -> bool
+    ensures { result ≡ list_any (bytes_eq word.now) self_files }
+{
+    word == b"load-self2".as_slice()
+        || word == b"load-self".as_slice()
+        || word == b"relabel-self".as_slice()
+}
+
+/// Whether a word is a name of a file that a script may write to.
+fn is_file_name(word: &[u8]) -> bool
+    ensures { result ≡ is_word_file_name word.now }
+{
+    !word.is_empty() && word.len() <= 32 && are_printed(word) && !is_self_file(word)
+}
+
 fn is_of_kind(kind: WordKind, word: &[u8]) -> bool
     requires { length word.now < 2 ^ 32 }
     ensures { result ≡ is_word_of_kind kind word.now }
@@ -170,7 +199,7 @@ fn is_of_kind(kind: WordKind, word: &[u8]) -> bool
     match kind {
         WordKind::Label => Label::read(word).is_ok(),
         WordKind::Modes => Modes::read(word).is_ok(),
-        WordKind::File => word == b"load2".as_slice(),
+        WordKind::File => is_file_name(word),
         WordKind::Number => number_of(word).is_some(),
         WordKind::Path => is_root_path(word),
         WordKind::Capability => cap_of(word).is_some(),

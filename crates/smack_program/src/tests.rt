@@ -174,11 +174,174 @@ fn refused_calls_and_rules(rt: HostRuntime) -> Result<(), Fail> {
 }
 
 #[test]
+fn writes_and_their_refusals(rt: HostRuntime) -> Result<(), Fail> {
+    let rows = [
+        (
+            "init write load2 3\nA B r\nA C r\nA B z\n",
+            "smack 1\ntask 0 init\nq 0.1 v0 write load2\n= bad-line 3 allow 0\nend 0 0 1\n",
+        ),
+        (
+            "init write onlycap 1\nAdmin\ninit write load2 1\nA B r\n",
+            "smack 1\ntask 0 init\nj 1 0.1 2\no only-clear\no only-add Admin\nq 0.2 v1 write load2\n= not-privileged\nend 1 0 1\n",
+        ),
+        (
+            "init write load3 0\ninit write ptrace 1\n3\ninit drop mac-admin\ninit write load2 0\ninit write onlycap 1\na/\n",
+            "smack 1\ntask 0 init\nh 1 0.3 v0 drop mac-admin\n= ok\nq 0.1 v0 write load3\n= no-such-file\nq 0.2 v0 write ptrace\n= bad-line 1 number\nq 0.4 v0 write load2\n= not-privileged\nq 0.5 v0 write onlycap\n= bad-line 1 label byte 1\nend 0 1 4\n",
+        ),
+        (
+            "init write ambient 1\nWeb\ninit write ptrace 1\n2\ninit write logging 1\n0\ninit write onlycap 1\n-\n",
+            "smack 1\ntask 0 init\nj 1 0.1 1\no ambient Web\nj 2 0.2 1\no ptrace 2\nj 3 0.3 1\no logging 0\nj 4 0.4 1\no only-clear\nend 4 0 0\n",
+        ),
+    ];
+    for (script, text) in rows {
+        assert!(rt; replays(&rt, script.as_bytes(), Status::Done, text.as_bytes())?);
+    }
+    Ok(())
+}
+
+const CHANGES: &str = "init write load2 1
+C B r
+init write change-rule 1
+A B rw w
+init ask A B r
+init ask A B w
+init write revoke-subject 1
+A
+init ask A B r
+init ask A B -
+init ask C B r
+init write change-rule 1
+A B x w
+init ask A B x
+init ask A B rx
+";
+
+const THEIR_BATCHES: &str = "smack 1
+task 0 init
+j 1 0.1 1
+o set C B r
+j 2 0.2 1
+o change A B rw w
+j 3 0.5 1
+o revoke A
+j 4 0.9 1
+o change A B x w
+q 0.3 v2 ask A B r
+= allow 6
+q 0.4 v2 ask A B w
+= deny 7
+q 0.6 v3 ask A B r
+= deny 7
+q 0.7 v3 ask A B -
+= allow 6
+q 0.8 v3 ask C B r
+= allow 6
+q 0.10 v4 ask A B x
+= allow 6
+q 0.11 v4 ask A B rx
+= deny 7
+end 4 0 7
+";
+
+const LOGGED: &str = "init write logging 1
+2
+init list / 0
+init write logging 1
+0
+init list / 0
+init write logging 1
+3
+init list / 0
+";
+
+const THEIR_LOG: &str = "smack 1
+task 0 init
+j 1 0.1 1
+o logging 2
+j 2 0.3 1
+o logging 0
+j 3 0.5 1
+o logging 3
+h 1 0.2 v1 list / 0
+c _ _ r allow 3
+a action=granted fn=list subject=_ object=_ requested=r case=3
+= names 0 0
+h 2 0.4 v2 list / 0
+c _ _ r allow 3
+= names 0 0
+h 3 0.6 v3 list / 0
+c _ _ r allow 3
+a action=granted fn=list subject=_ object=_ requested=r case=3
+= names 0 0
+end 3 3 0
+";
+
+#[test]
+fn changes_and_the_log(rt: HostRuntime) -> Result<(), Fail> {
+    assert!(rt;
+        replays(
+            &rt,
+            CHANGES.as_bytes(),
+            Status::Done,
+            THEIR_BATCHES.as_bytes()
+        )?
+    );
+    assert!(rt; replays(&rt, LOGGED.as_bytes(), Status::Done, THEIR_LOG.as_bytes())?);
+    Ok(())
+}
+
+/// Whether a write of one line ends with these lines, behind the head of the record.
+fn writes(
+    rt: &(impl Abort + AllocGlobal),
+    file: &[u8],
+    line: &[u8],
+    rest: &[&[u8]],
+) -> Result<bool, Fail> {
+    let mut script = Vec::from_slice(rt.alloc(), b"init write ")?;
+    script.extend_from_slice(file)?;
+    script.extend_from_slice(b" 1\n")?;
+    script.extend_from_slice(line)?;
+    let mut text = Vec::from_slice(rt.alloc(), b"smack 1\ntask 0 init\n")?;
+    for part in rest {
+        text.extend_from_slice(part)?;
+    }
+    replays(rt, script.as_slice(), Status::Done, text.as_slice())
+}
+
+#[test]
+fn labels_of_most_bytes(rt: HostRuntime) -> Result<(), Fail> {
+    let mut long = [b'A'; 260];
+    long[255..].copy_from_slice(b" B r\n");
+    let published: [&[u8]; 3] = [b"j 1 0.1 1\no set ", &long, b"end 1 0 0\n"];
+    assert!(rt; writes(&rt, b"load2", &long, &published)?);
+    let mut longer = [b'A'; 261];
+    longer[256..].copy_from_slice(b" B r\n");
+    let refused: [&[u8]; 1] = [b"q 0.1 v0 write load2\n= bad-line 1 subject too-long\nend 0 0 1\n"];
+    assert!(rt; writes(&rt, b"load2", &longer, &refused)?);
+    Ok(())
+}
+
+#[test]
+fn lines_of_53_bytes(rt: HostRuntime) -> Result<(), Fail> {
+    let good = b" AAAAAAAAAAAAAAAAAAAAAAAB                       r    \n";
+    let published: [&[u8]; 1] = [b"j 1 0.1 1\no set AAAAAAAAAAAAAAAAAAAAAAA B r\nend 1 0 0\n"];
+    assert!(rt; writes(&rt, b"load", good, &published)?);
+    let long = b"AAAAAAAAAAAAAAAAAAAAAAAAB                       r    \n";
+    let refused: [&[u8]; 1] = [b"q 0.1 v0 write load\n= bad-line 1 subject too-long\nend 0 0 1\n"];
+    assert!(rt; writes(&rt, b"load", long, &refused)?);
+    let short = b" AAAAAAAAAAAAAAAAAAAAAAAB                       r   \n";
+    let refused: [&[u8]; 1] = [b"q 0.1 v0 write load\n= bad-line 1 width 52\nend 0 0 1\n"];
+    assert!(rt; writes(&rt, b"load", short, &refused)?);
+    Ok(())
+}
+
+#[test]
 fn bad_lines_and_too_many_bytes(rt: HostRuntime) -> Result<(), Fail> {
     let rows = [
         ("init frob\n", 1),
         ("\n# c\ninit ask A B r\ninit ask A B z", 4),
-        ("init write load2 1\nA B z\n", 1),
+        ("init write load-self2 1\nA B r\n", 1),
+        ("init write load2 2\nA B r\n", 1),
         ("init create /f\ninit create /d/f\n", 2),
         ("init create f\n", 1),
         ("init create /f x\n", 1),

@@ -1,15 +1,21 @@
-//! Smackfs files: what the text that is written to a file becomes, or why it is refused.
+//! Smackfs files: which writes the text of a file spells, and what it becomes or why it is refused.
 //!
-//! `compile` is exact to `compiled` of `script_spec`, which speaks of the whole text cut into
-//! lines; the code walks the text and keeps no copy of it. A text is refused for the first of:
-//! no such file, too long, the first bad line, the first line with a label that the table lacks.
+//! `TextWrites` reads the writes of a text one after another, for each of the eight files of rules
+//! and settings; its labels are parts of the text. A contract sees the answers that are still to
+//! come. `compile` looks the labels up and is exact to `compiled` of `script_spec`. A text is
+//! refused for the first of: no such file, too long, the first bad line, the first line with a label
+//! that the table lacks.
 //!
-//! Stands on rule_text for the lines and on label_table for the ids of labels.
+//! Stands on rule_text for lines and words and on label_table for the ids of labels.
 #![tactic(auto)]
 
 mod compiling;
+mod named_op;
 #[cfg(test)]
 mod tests;
+mod text_writes;
 
-pub use compiling::{TextFault, compile};
-pub use script_spec::{Compiled, Refusal};
+pub use compiling::{TextFault, compile, rule_file};
+pub use named_op::NamedOp;
+pub use script_spec::{Compiled, Refusal, RuleFile};
+pub use text_writes::{TextWrites, first_bad};

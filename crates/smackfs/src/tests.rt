@@ -1,6 +1,8 @@
 use crate::{Compiled, Refusal, TextFault, compile};
 use label_table::Labels;
+use rule_text::LineFault::{Allow, Deny, Fields, Label as LabelAt, Number, Object, Subject, Width};
 use rule_text::{BadLine, LineFault};
+use smack_base::LabelFault::{BadByte, Empty, LeadingDash, TooLong};
 use smack_base::{Label, LabelId, Modes, RuleOp};
 use std::alloc::Global;
 use std::process::Abort;
@@ -18,31 +20,99 @@ fn labels(rt: &(impl Abort + AllocGlobal)) -> Result<Labels, Fail> {
     Ok(labels)
 }
 
-/// Whether a text of `load2` becomes these writes.
-fn becomes(labels: &Labels, alloc: Global, text: &[u8], ops: &[RuleOp]) -> bool {
-    match compile(alloc, labels, b"load2", text) {
+const A: LabelId = LabelId(5);
+
+const B: LabelId = LabelId(6);
+
+const READ: Modes = Modes {
+    read: true,
+    ..Modes::NONE
+};
+
+const WRITE: Modes = Modes {
+    write: true,
+    ..Modes::NONE
+};
+
+/// Whether a text becomes these writes.
+fn becomes(labels: &Labels, alloc: Global, file: &[u8], text: &[u8], ops: &[RuleOp]) -> bool {
+    match compile(alloc, labels, file, text) {
         Ok(Compiled::Rules(made)) => made.items() == ops,
         _ => false,
     }
 }
 
+fn set(s: LabelId, o: LabelId, m: Modes) -> RuleOp {
+    RuleOp::Set { s, o, m }
+}
+
 #[test]
-fn writes_in_order(rt: HostRuntime) -> Result<(), Fail> {
+fn writes_of_rules(rt: HostRuntime) -> Result<(), Fail> {
     let labels = labels(&rt)?;
-    let ops = [
-        RuleOp::Set {
-            s: LabelId(5),
-            o: LabelId(6),
-            m: Modes::of(b"rx"),
-        },
-        RuleOp::Set {
-            s: LabelId(6),
-            o: LabelId::FLOOR,
-            m: Modes::NONE,
-        },
+    let sets = [set(A, B, READ), set(B, LabelId::FLOOR, Modes::NONE)];
+    assert!(rt;
+        becomes(
+            &labels,
+            rt.alloc(),
+            b"load2",
+            b"A B rR\n\n \tB\t_ -\n",
+            &sets
+        )
+    );
+    assert!(rt; becomes(&labels, rt.alloc(), b"load2", b"", &[]));
+    let short =
+        b"A                       B                       r--  \n\n B                      _                            ";
+    assert!(rt; becomes(&labels, rt.alloc(), b"load", short, &sets));
+    let changed = RuleOp::Change {
+        s: A,
+        o: B,
+        allow: READ.plus(WRITE),
+        deny: WRITE,
+    };
+    assert!(rt;
+        becomes(
+            &labels,
+            rt.alloc(),
+            b"change-rule",
+            b"A B wr w\n",
+            &[changed]
+        )
+    );
+    let revoked = [RuleOp::Revoke { s: A }, RuleOp::Revoke { s: B }];
+    assert!(rt;
+        becomes(
+            &labels,
+            rt.alloc(),
+            b"revoke-subject",
+            b"A\n\n B\t",
+            &revoked
+        )
+    );
+    Ok(())
+}
+
+#[test]
+fn writes_of_settings(rt: HostRuntime) -> Result<(), Fail> {
+    let labels = labels(&rt)?;
+    let listed = [
+        RuleOp::OnlyClear,
+        RuleOp::OnlyAdd { l: A },
+        RuleOp::OnlyAdd { l: B },
     ];
-    assert!(rt; becomes(&labels, rt.alloc(), b"A B rRx\n\n \tB\t_ -\n", &ops));
-    assert!(rt; becomes(&labels, rt.alloc(), b"", &[]));
+    let rows: [(&[u8], &[u8], &[RuleOp]); 9] = [
+        (b"onlycap", b"A\n\tB", &listed),
+        (b"onlycap", b" -\n", &listed[..1]),
+        (b"onlycap", b"", &listed[..1]),
+        (b"ambient", b"\nA\n", &[RuleOp::Ambient { l: A }]),
+        (b"ambient", b"_", &[RuleOp::Ambient { l: LabelId::FLOOR }]),
+        (b"ptrace", b"0", &[RuleOp::Ptrace { n: 0 }]),
+        (b"ptrace", b"2\n", &[RuleOp::Ptrace { n: 2 }]),
+        (b"logging", b" 0 ", &[RuleOp::Logging { n: 0 }]),
+        (b"logging", b"3", &[RuleOp::Logging { n: 3 }]),
+    ];
+    for (file, text, ops) in rows {
+        assert!(rt; becomes(&labels, rt.alloc(), file, text, ops));
+    }
     Ok(())
 }
 
@@ -52,34 +122,179 @@ fn refuses(labels: &Labels, alloc: Global, file: &[u8], text: &[u8], refusal: Re
 }
 
 #[test]
-fn the_first_refusal(rt: HostRuntime) -> Result<(), Fail> {
+fn no_such_file_and_unknown_labels(rt: HostRuntime) -> Result<(), Fail> {
     let labels = labels(&rt)?;
-    let bad = |line: u32, fault: LineFault| Refusal::BadLine(BadLine { line, fault });
-    let rows = [
-        (b"load3".as_slice(), b"A B".as_slice(), Refusal::NoSuchFile),
-        (
-            b"load2",
-            b"A B r\nA C r\n",
-            Refusal::UnknownLabel { line: 2 },
-        ),
-        (
-            b"load2",
-            b"A C r\nA B z\n",
-            bad(2, LineFault::Allow { at: 0 }),
-        ),
-        (b"load2", b"A B\n", bad(1, LineFault::Fields { n: 2 })),
+    assert!(rt; refuses(&labels, rt.alloc(), b"load3", b"A B", Refusal::NoSuchFile));
+    assert!(rt; refuses(&labels, rt.alloc(), b"", b"", Refusal::NoSuchFile));
+    let rows: [(&[u8], &[u8], u32); 6] = [
+        (b"load2", b"A B r\nA C r\n", 2),
+        (b"load2", b"C B r", 1),
+        (b"change-rule", b"\nA C r w", 2),
+        (b"revoke-subject", b"A\nC", 2),
+        (b"onlycap", b"A\nB C", 2),
+        (b"ambient", b"\n\nC", 3),
     ];
-    for (file, text, refusal) in rows {
-        assert!(rt; refuses(&labels, rt.alloc(), file, text, refusal));
+    for (file, text, line) in rows {
+        assert!(rt;
+            refuses(
+                &labels,
+                rt.alloc(),
+                file,
+                text,
+                Refusal::UnknownLabel { line }
+            )
+        );
     }
-    let long = vec![in rt.alloc(); b'\n'; 65_537]?;
-    assert!(rt; becomes(&labels, rt.alloc(), &long.as_slice()[..65_536], &[]));
+    Ok(())
+}
+
+/// Files and texts, and the first bad line of each.
+const BAD_TEXTS: [(&[u8], &[u8], u32, LineFault); 20] = [
+    (b"load2", b"A C r\nA B z\n", 2, Allow { at: 0 }),
+    (b"load2", b"A B\n", 1, Fields { n: 2 }),
+    (b"load", b" ", 1, Width { n: 1 }),
+    (b"change-rule", b"A B r", 1, Fields { n: 3 }),
+    (b"change-rule", b"A B r wz", 1, Deny { at: 1 }),
+    (b"revoke-subject", b"A\nA B\n", 2, Fields { n: 2 }),
+    (b"revoke-subject", b"-", 1, Subject(LeadingDash)),
+    (b"onlycap", b"A\n- B", 2, LabelAt(LeadingDash)),
+    (b"onlycap", b"C A/", 1, LabelAt(BadByte { at: 1 })),
+    (b"ambient", b"A\nB", 2, Fields { n: 2 }),
+    (b"ambient", b" \n", 1, Fields { n: 0 }),
+    (b"ambient", b"\nA/", 2, LabelAt(BadByte { at: 1 })),
+    (b"ambient", b"-", 1, LabelAt(LeadingDash)),
+    (b"ptrace", b"3", 1, Number),
+    (b"ptrace", b"\n00", 2, Number),
+    (b"ptrace", b"", 1, Fields { n: 0 }),
+    (b"logging", b"4", 1, Number),
+    (b"logging", b"/", 1, Number),
+    (b"logging", b"-1", 1, Number),
+    (b"logging", b"1\n2", 2, Fields { n: 2 }),
+];
+
+#[test]
+fn the_first_bad_line(rt: HostRuntime) -> Result<(), Fail> {
+    let labels = labels(&rt)?;
+    for (file, text, line, fault) in BAD_TEXTS {
+        let bad = Refusal::BadLine(BadLine { line, fault });
+        assert!(rt; refuses(&labels, rt.alloc(), file, text, bad));
+    }
+    Ok(())
+}
+
+/// Texts at an edge of what a file takes, with the only write of a good one by the labels A and B,
+/// or the fault of its line.
+const EDGES: [(&[u8], &[u8], Result<Modes, LineFault>); 27] = [
+    (b"load2", b"A\tB \t r", Ok(READ)),
+    (b"load2", b"  A B R  ", Ok(READ)),
+    (b"load2", b"A B rRr-", Ok(READ)),
+    (b"load2", b"A B -", Ok(Modes::NONE)),
+    (b"load2", b"\0 B r", Err(Subject(BadByte { at: 0 }))),
+    (b"load2", b"A\r B r", Err(Subject(BadByte { at: 1 }))),
+    (b"load2", b"A\x7f B r", Err(Subject(BadByte { at: 1 }))),
+    (b"load2", b"\xff B r", Err(Subject(BadByte { at: 0 }))),
+    (b"load2", b"A B\0 r", Err(Object(BadByte { at: 1 }))),
+    (b"load2", b"A \r r", Err(Object(BadByte { at: 0 }))),
+    (b"load2", b"A \x7f r", Err(Object(BadByte { at: 0 }))),
+    (b"load2", b"A B\xff r", Err(Object(BadByte { at: 1 }))),
+    (b"load2", b"A B r\0", Err(Allow { at: 1 })),
+    (b"load2", b"A B r\r", Err(Allow { at: 1 })),
+    (b"load2", b"A B \x7f", Err(Allow { at: 0 })),
+    (b"load2", b"A B r\xff", Err(Allow { at: 1 })),
+    (
+        b"load",
+        b"A                       B                       R    ",
+        Ok(READ),
+    ),
+    (
+        b"load",
+        b"   A                         B                     r ",
+        Ok(READ),
+    ),
+    (
+        b"load",
+        b"A                       B                            ",
+        Ok(Modes::NONE),
+    ),
+    (
+        b"load",
+        b"\t                       B                       r    ",
+        Err(Subject(BadByte { at: 0 })),
+    ),
+    (
+        b"load",
+        b"A                       B\0                      r    ",
+        Err(Object(BadByte { at: 1 })),
+    ),
+    (
+        b"load",
+        b"A                       B                       r\r   ",
+        Err(Allow { at: 1 }),
+    ),
+    (
+        b"load",
+        b"A                       B                       b    ",
+        Err(Allow { at: 0 }),
+    ),
+    (
+        b"load",
+        b"A                       B                       r   ",
+        Err(Width { n: 52 }),
+    ),
+    (
+        b"load",
+        b"A                       B                       r     ",
+        Err(Width { n: 54 }),
+    ),
+    (
+        b"load",
+        b"AAAAAAAAAAAAAAAAAAAAAAAAB                       r    ",
+        Err(Subject(TooLong)),
+    ),
+    (
+        b"load",
+        b"                        B                       r    ",
+        Err(Subject(Empty)),
+    ),
+];
+
+#[test]
+fn texts_at_each_edge(rt: HostRuntime) -> Result<(), Fail> {
+    let labels = labels(&rt)?;
+    for (file, text, expected) in EDGES {
+        match expected {
+            Ok(m) => assert!(rt; becomes(&labels, rt.alloc(), file, text, &[set(A, B, m)])),
+            Err(fault) => {
+                let bad = Refusal::BadLine(BadLine { line: 1, fault });
+                assert!(rt; refuses(&labels, rt.alloc(), file, text, bad));
+            }
+        }
+    }
+    Ok(())
+}
+
+#[test]
+fn longest_labels_and_texts(rt: HostRuntime) -> Result<(), Fail> {
+    let labels = labels(&rt)?;
+    let mut text = [b'A'; 260];
+    text[255..].copy_from_slice(b" B r\n");
+    let unknown = Refusal::UnknownLabel { line: 1 };
+    assert!(rt; refuses(&labels, rt.alloc(), b"load2", &text, unknown));
+    text[255..].copy_from_slice(b"A B r");
+    let long = Refusal::BadLine(BadLine {
+        line: 1,
+        fault: Subject(TooLong),
+    });
+    assert!(rt; refuses(&labels, rt.alloc(), b"load2", &text, long));
+    let feeds = vec![in rt.alloc(); b'\n'; 65_537]?;
+    let most = &feeds.as_slice()[..65_536];
+    assert!(rt; becomes(&labels, rt.alloc(), b"load2", most, &[]));
     assert!(rt;
         refuses(
             &labels,
             rt.alloc(),
             b"load2",
-            long.as_slice(),
+            feeds.as_slice(),
             Refusal::TooLong
         )
     );

@@ -43,7 +43,7 @@ abbrev pub unless_fault : Option LineFault → RuleWords → Result RuleWords Ba
 unless_fault None r = Ok r
 unless_fault (Some f) r = Err (record { line = r.line; fault = f })
 
-abbrev pub fields_fault : ℕ → List Placed → Result RuleWords BadLine
+abbrev pub fields_fault : {A : Type 0} → ℕ → List Placed → Result A BadLine
 fields_fault line words = Err (record { line = line; fault = Fields (length words) })
 
 -- a line of subject, object and access
@@ -100,7 +100,7 @@ short_line line l =
     else Err (record { line = line; fault = Width (length l.bytes) })
 
 -- a line without a word is skipped
-abbrev pub unless_bare : List Placed → Result RuleWords BadLine → Option (Result RuleWords BadLine)
+abbrev pub unless_bare : {A : Type 0} → List Placed → Result A BadLine → Option (Result A BadLine)
 unless_bare [] answer = None
 unless_bare (w ∷ ws) answer = Some answer
 
@@ -128,6 +128,27 @@ line_answers form line (l ∷ ls) = before_more (line_answer form line l) (line_
 abbrev pub rule_answers : RuleForm → List ℕ → List (Result RuleWords BadLine)
 rule_answers form text = line_answers form 1 (lines_from 0 text)
 
+abbrev pub unless_subject_fault : ℕ → Option LineFault → Placed → Result Placed BadLine
+unless_subject_fault line None s = Ok s
+unless_subject_fault line (Some f) s = Err (record { line = line; fault = f })
+
+-- a line of one subject
+abbrev pub subject_line : ℕ → List Placed → Result Placed BadLine
+subject_line line (s ∷ []) = unless_subject_fault line (subject_fault s) s
+subject_line line words = fields_fault line words
+
+abbrev pub subject_answer : ℕ → TextLine → Option (Result Placed BadLine)
+subject_answer line l = unless_bare (blank_words l) (subject_line line (blank_words l))
+
+-- what lines of subjects are, from this number on
+abbrev pub subject_answers_from : ℕ → List TextLine → List (Result Placed BadLine)
+subject_answers_from line [] = []
+subject_answers_from line (l ∷ ls) = before_more (subject_answer line l) (subject_answers_from (line + 1) ls)
+
+-- what a text of subjects is, line by line
+abbrev pub subject_answers : List ℕ → List (Result Placed BadLine)
+subject_answers text = subject_answers_from 1 (lines_from 0 text)
+
 -- all that was good, or the first bad line
 abbrev pub with_first : {A : Type 0} → Result A BadLine → Result (List A) BadLine → Result (List A) BadLine
 with_first (Err b) more = Err b
@@ -137,10 +158,6 @@ with_first (Ok r) (Ok rs) = Ok (r ∷ rs)
 abbrev pub all_good : {A : Type 0} → List (Result A BadLine) → Result (List A) BadLine
 all_good [] = Ok []
 all_good (r ∷ rs) = with_first r (all_good rs)
-
--- the rules of a text of this form, or its first bad line
-abbrev pub rules_of_text : RuleForm → List ℕ → Result (List RuleWords) BadLine
-rules_of_text form text = all_good (rule_answers form text)
 
 -- a word of a text, and the number of its line
 pub record LineWord : Type 0 where
@@ -175,9 +192,6 @@ words_answers (w ∷ ws) = before_more (Some (list_word w)) (words_answers ws)
 abbrev pub label_answers : List LineWord → List (Result Placed BadLine)
 label_answers (w ∷ []) = if is_dash w.word.bytes then [] else words_answers (w ∷ [])
 label_answers words = words_answers words
-
-abbrev pub labels_of_text : List ℕ → Result (List Placed) BadLine
-labels_of_text text = all_good (label_answers (all_words text))
 
 -- the only word of a text; else the fault is at line 1 where there is none, and at the line of the second word
 abbrev pub only_word : List LineWord → Result Placed BadLine

@@ -1,0 +1,30 @@
+use Rattle.std.specs.Prelude.{List, [], ◌∷◌, Some, None, Option, Result, Ok, if◌then◌else◌, map, IfSome}
+use Rattle.text_spec.specs.declared.BadLine.{BadLine}
+use Rattle.script_spec.specs.Writes.{NamedWrite, NamedRevoke, NamedClear, NamedAdd, on_good, set_write, change_write}
+use Rattle.smackfs.specs.Named.{seen_op, IsGoodOp}
+use Rattle.smackfs.specs.declared.named_op.NamedOp.{NamedOp}
+use Rattle.smackfs.specs.declared.text_writes.ListWrites.{ListWrites}
+use Rattle.smackfs.specs.declared.text_writes.Reader.{Reader}
+use Rattle.smackfs.specs.declared.text_writes.Reader.TheVariants.{Sets, Changes, Revokes, Onlycap, Single}
+
+abbrev pub one_left : Option (Result NamedOp BadLine) → List (Result NamedWrite BadLine)
+one_left None = []
+one_left (Some answer) = seen_op answer ∷ []
+
+abbrev pub list_left : ListWrites → List (Result NamedWrite BadLine)
+list_left list =
+    if list.cleared then map (on_good NamedAdd) list.labels
+    else Ok NamedClear ∷ map (on_good NamedAdd) list.labels
+
+-- what a reader will still answer
+abbrev pub left : Reader → List (Result NamedWrite BadLine)
+left (Sets lines) = map (on_good set_write) lines
+left (Changes lines) = map (on_good change_write) lines
+left (Revokes lines) = map (on_good NamedRevoke) lines
+left (Onlycap list) = list_left list
+left (Single answer) = one_left answer
+
+-- a single answer that is still to come has good names
+abbrev pub IsGoodReader : Reader → Type 0
+IsGoodReader (Single answer) = IfSome answer IsGoodOp
+IsGoodReader _ = Unit {0}

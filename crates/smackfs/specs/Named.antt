@@ -1,0 +1,43 @@
+use Rattle.std.specs.Prelude.{◌≡◌, List, [], ◌∷◌, true, Option, Some, None, Result, Ok, Err}
+use Rattle.std.specs.List.{list_all}
+use Rattle.smack_base.specs.Labels.{is_label}
+use Rattle.smack_base.specs.declared.ids.LabelId.{LabelId}
+use Rattle.text_spec.specs.declared.BadLine.{BadLine}
+use Rattle.rule_text.specs.Parts.{placed}
+use Rattle.script_spec.specs.Writes.{NamedWrite, NamedSet, NamedChange, NamedRevoke, NamedClear, NamedAdd, NamedAmbient, NamedPtrace, NamedLogging, names_of}
+use Rattle.smackfs.specs.declared.named_op.NamedOp.{NamedOp}
+use Rattle.smackfs.specs.declared.named_op.NamedOp.TheVariants.{Set, Change, Revoke, OnlyClear, OnlyAdd, Ambient, Ptrace, Logging}
+
+-- the write that a text spells
+abbrev pub named : NamedOp → NamedWrite
+named (Set s o m) = NamedSet (placed s) (placed o) m
+named (Change s o allow deny) = NamedChange (placed s) (placed o) allow deny
+named (Revoke s) = NamedRevoke (placed s)
+named OnlyClear = NamedClear
+named (OnlyAdd l) = NamedAdd (placed l)
+named (Ambient l) = NamedAmbient (placed l)
+named (Ptrace n) = NamedPtrace n
+named (Logging n) = NamedLogging n
+
+abbrev pub seen_op : Result NamedOp BadLine → Result NamedWrite BadLine
+seen_op (Ok op) = Ok (named op)
+seen_op (Err bad) = Err bad
+
+-- what stands in a write for labels is labels
+abbrev pub HasGoodNames : NamedWrite → Type 0
+HasGoodNames w = list_all is_label (names_of w) ≡ true
+
+abbrev pub IsGoodOp : Result NamedOp BadLine → Type 0
+IsGoodOp (Ok op) = HasGoodNames (named op)
+IsGoodOp (Err bad) = Unit {0}
+
+-- two ids, where both are there
+abbrev pub both : Option LabelId → Option LabelId → Option (LabelId × LabelId)
+both (Some s) (Some o) = Some (s, o)
+both (Some s) None = None
+both None o = None
+
+-- the first answer was given, and these are left; or there was none
+abbrev pub Answers : List (Result NamedWrite BadLine) → List (Result NamedWrite BadLine) → Option (Result NamedOp BadLine) → Type 0
+Answers old new None = (old ≡ []) × (new ≡ [])
+Answers old new (Some answer) = old ≡ seen_op answer ∷ new
