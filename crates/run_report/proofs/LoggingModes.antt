@@ -1,12 +1,12 @@
-use Rattle.std.proofs.Common.{◌≡◌, ◌+◌, ◌-◌, ◌<◌, ℕ, zero, suc, Bool, true, false, List, [], ◌∷◌, length, take, refl, sym, ap, ◌∙◌, arith, inl, inr, nat_lt}
-use Rattle.std.specs.Prelude.{fold, slice_index_or}
+use Rattle.std.proofs.Common.{◌≡◌, ◌+◌, ◌-◌, ◌<◌, ℕ, zero, suc, true, false, List, [], ◌∷◌, length, take, refl, sym, ◌∙◌, arith, inl, inr, nat_lt}
+use Rattle.std.specs.Prelude.{fold}
 use Rattle.std.proofs.lemmas.Bool.{cases_Bool, lt-ltb, le-ltb, ltb-true, ltb-false}
 use Rattle.std.proofs.lemmas.Grind.{fold-append}
 use Rattle.rules_spec.specs.declared.Batch.{Batch}
-use Rattle.rules_spec.specs.Versions.{after_logging, writes, logging}
+use Rattle.rules_spec.specs.Versions.{after_logging, writes}
 use Rattle.record_spec.specs.declared.RunRecord.{RunRecord}
 use Rattle.record_spec.specs.Entries.{entry_lines}
-use Rattle.record_spec.specs.Show.{lines_in_turn, history_lines, mode_of}
+use Rattle.record_spec.specs.Show.{lines_in_turn, history_lines}
 use Rattle.run_report.specs.Modes.{modes_from, mode_in}
 
 -- there is a mode for each version, and one more

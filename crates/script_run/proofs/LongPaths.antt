@@ -10,5 +10,5 @@ none_of (Ok names) e = cc
 none_of (Err f) e = refl
 
 -- a word that is longer than a script is no path
-pub no_long_path : (word : List ℕ) → 65536 < length word → None ≡ result_ok (path_of word)
+pub no_long_path : (word : List ℕ) → 4194304 < length word → None ≡ result_ok (path_of word)
 no_long_path word long = none_of (path_of word) (too_long word (omega (arith, long)))

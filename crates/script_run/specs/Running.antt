@@ -1,4 +1,4 @@
-use Rattle.std.specs.Prelude.{◌≡◌, ◌≤◌, ◌+◌, List, length}
+use Rattle.std.specs.Prelude.{◌≡◌, ◌≤◌, ◌+◌, length}
 use Rattle.rule_fold.specs.Index.{StandsFor}
 use Rattle.record_spec.specs.Replays.{Run}
 use Rattle.script_run.specs.declared.runner.Runner.{Runner}

@@ -1,5 +1,5 @@
 ghost use Rattle.std.specs.Prelude.{◌≡◌, ◌≤◌, ◌∷◌, [], length, map, codes, IfOk};
-ghost use Rattle.script_spec.specs.Grammar.{most_bytes};
+ghost use Rattle.script_spec.specs.Grammar.{most_lines};
 ghost use Rattle.script_text.specs.Lines.{call_seen};
 ghost use Rattle.record_spec.specs.Replays.{run_of, replayed};
 ghost use Rattle.script_run.specs.Running.{seen, IsRunning};
@@ -13,7 +13,7 @@ use std::alloc::{AllocError, Global};
 
 /// Runs calls in order.
 fn run_lines(alloc: Global, labels: &Labels, lines: &[Line<'_>]) -> Result<Runner, AllocError>
-    requires { length lines.now ≤ most_bytes }
+    requires { length lines.now ≤ most_lines }
     ensures { IfOk result (λ run. seen run ≡ run_of labels.now (map call_seen lines.now)) }
 {
     let mut run = Runner::new(alloc)?;

@@ -1,5 +1,6 @@
-use Rattle.std.specs.Prelude.{ℕ, ◌+◌, ◌-◌, Bool, true, false, ◌&&◌, ◌||◌, not, ◌==◌, if◌then◌else◌, List, [], ◌∷◌, ◌++◌, Option, Some, None, Result, Ok, Err, length, take, codes, slice_index_or, nat_lt, nat_le}
+use Rattle.std.specs.Prelude.{ℕ, ◌+◌, ◌-◌, Bool, true, false, ◌||◌, not, ◌==◌, if◌then◌else◌, List, [], ◌∷◌, ◌++◌, Option, Some, None, Result, Ok, Err, length, take, codes, slice_index_or, nat_lt, nat_le}
 use Rattle.std.specs.List.{flat_map}
+use Rattle.std.specs.Option.{option_map}
 use Rattle.std.specs.Str.{bytes_eq}
 use Rattle.text_spec.specs.Texts.{Placed, TextLine, lines_from, words_from, whole_line, whole_lines, is_space}
 use Rattle.text_spec.specs.Names.{predefined, with_names}
@@ -7,12 +8,13 @@ use Rattle.script_spec.specs.declared.Verb.{Verb}
 use Rattle.script_spec.specs.declared.Verb.TheVariants.{Write}
 use Rattle.script_spec.specs.declared.WordKind.{WordKind}
 use Rattle.script_spec.specs.declared.WordKind.TheVariants.{Label}
-use Rattle.script_spec.specs.declared.Cause.TheVariants.{NotBuilt}
-use Rattle.script_spec.specs.declared.What.TheVariants.{Bytes, Labels}
+use Rattle.script_spec.specs.declared.Cause.{Cause}
+use Rattle.script_spec.specs.declared.Cause.TheVariants.{Task, Verb as NoVerb, Words, Word, Text, NotBuilt}
+use Rattle.script_spec.specs.declared.What.TheVariants.{Bytes, Lines, Text as LongText, Rows, Labels}
 use Rattle.script_spec.specs.declared.ScriptFault.{ScriptFault}
 use Rattle.script_spec.specs.declared.ScriptFault.TheVariants.{Malformed, TooLarge}
-use Rattle.script_spec.specs.Words.{verb_of, kinds_of, are_of_kinds, number_of}
-use Rattle.script_spec.specs.Writes.{rule_file, names_of_text}
+use Rattle.script_spec.specs.Words.{verb_of, kinds_of, is_unbuilt_verb, is_self_file, is_task_name, bad_word, has_deep_path, number_of}
+use Rattle.script_spec.specs.Writes.{rule_file, names_of_text, rows_of_text}
 
 -- A call of a script: its task, its number among the calls of the task, from 1, the number of its line, from 1, its
 -- words behind the task, and its text. A word or a text that it does not have is empty.
@@ -26,9 +28,19 @@ pub record ScriptLine : Type 0 where
   pub three : Placed
   pub text : Placed
 
--- the most bytes of a script
+-- the most bytes and lines of a script, and the most bytes of one text
 abbrev pub most_bytes : ℕ
-most_bytes = 65536
+most_bytes = 4194304
+
+abbrev pub most_lines : ℕ
+most_lines = 131072
+
+abbrev pub most_text : ℕ
+most_text = 65536
+
+-- the most rows of a journal
+abbrev pub most_rows : ℕ
+most_rows = 1048576
 
 -- the most labels of a script, the predefined ones included
 abbrev pub most_labels : ℕ
@@ -110,19 +122,53 @@ call_of seq i = record {
   text = record { at = i.behind; bytes = text_bytes i };
 }
 
-abbrev pub are_words_of : Option Verb → List Placed → Bool
-are_words_of None words = false
-are_words_of (Some verb) words = are_of_kinds (kinds_of verb) words
-
--- the words of a call: the first task, a verb, and words of its kinds
-abbrev pub are_words : List Placed → Bool
-are_words [] = false
-are_words (task ∷ []) = false
-are_words (task ∷ verb ∷ words) = bytes_eq task.bytes (codes "init") && are_words_of (verb_of verb.bytes) words
-
 -- the text of an item is all there
 abbrev pub has_text : Item → Bool
 has_text i = nat_le (text_count i.words) (length i.after)
+
+abbrev pub cause_if : Bool → Cause → Option Cause
+cause_if bad cause = if bad then Some cause else None
+
+-- the first cause of some, in their order
+abbrev pub first_cause : List (Option Cause) → Option Cause
+first_cause [] = None
+first_cause (None ∷ more) = first_cause more
+first_cause (Some c ∷ more) = Some c
+
+-- whether a verb and its words name a file that is not built
+abbrev pub names_self_file : Verb → List Placed → Bool
+names_self_file Write ws = is_self_file (word_at 0 ws).bytes
+names_self_file _ ws = false
+
+abbrev pub is_first_task : List ℕ → Bool
+is_first_task name = bytes_eq name (codes "init")
+
+-- what is wrong with the words behind a verb, or with the text or the task of the line
+abbrev pub words_cause : List ℕ → Verb → List Placed → Bool → Option Cause
+words_cause task verb ws text =
+    first_cause
+    (cause_if (names_self_file verb ws) NotBuilt
+    ∷ cause_if (not (length ws == length (kinds_of verb))) Words
+    ∷ option_map (λ k. Word k) (bad_word 3 (kinds_of verb) ws)
+    ∷ cause_if (has_deep_path (kinds_of verb) ws) NotBuilt
+    ∷ cause_if (not text) Text
+    ∷ cause_if (not (is_first_task task)) Task ∷ [])
+
+abbrev pub unless_verb : List ℕ → Option Cause
+unless_verb name = if is_unbuilt_verb name then Some NotBuilt else Some NoVerb
+
+abbrev pub verb_cause : List ℕ → List ℕ → Option Verb → List Placed → Bool → Option Cause
+verb_cause task name None ws text = unless_verb name
+verb_cause task name (Some verb) ws text = words_cause task verb ws text
+
+abbrev pub behind_task : List ℕ → List Placed → Bool → Option Cause
+behind_task task [] text = Some NoVerb
+behind_task task (v ∷ ws) text = verb_cause task v.bytes (verb_of v.bytes) ws text
+
+-- what is wrong with a line of these words, whose text is all there or not
+abbrev pub line_cause : List Placed → Bool → Option Cause
+line_cause [] text = Some (Word 1)
+line_cause (t ∷ ws) text = if is_task_name t.bytes then behind_task t.bytes ws text else Some (Word 1)
 
 abbrev pub stands_for_label : WordKind → Bool
 stands_for_label Label = true
@@ -154,13 +200,23 @@ labels_of l = labels_by (verb_of l.verb.bytes) l
 abbrev pub table_of : List ScriptLine → List (List ℕ)
 table_of lines = with_names predefined (flat_map labels_of lines)
 
--- what is known before an item: how many calls stand before it, and the label table of these
+-- the rows of the journal that a verb with this file and text takes
+abbrev pub rows_by : Option Verb → List ℕ → List ℕ → ℕ
+rows_by (Some Write) file text = rows_of_text (rule_file file) text
+rows_by _ file text = 0
+
+abbrev pub rows_of : ScriptLine → ℕ
+rows_of l = rows_by (verb_of l.verb.bytes) l.one.bytes l.text.bytes
+
+-- what is known before an item: how many calls stand before it, the rows of the journal that they take, and their
+-- label table
 pub record Known : Type 0 where
   pub calls : ℕ
+  pub rows : ℕ
   pub labels : List (List ℕ)
 
 abbrev pub known_first : Known
-known_first = record { calls = 0; labels = predefined }
+known_first = record { calls = 0; rows = 0; labels = predefined }
 
 abbrev pub known_call : Known → Item → ScriptLine
 known_call known i = call_of (known.calls + 1) i
@@ -168,6 +224,7 @@ known_call known i = call_of (known.calls + 1) i
 abbrev pub known_after : Known → Item → Known
 known_after known i = record {
   calls = known.calls + 1;
+  rows = known.rows + rows_of (known_call known i);
   labels = with_names known.labels (labels_of (known_call known i));
 }
 
@@ -180,11 +237,14 @@ first_of [] = None
 first_of (None ∷ more) = first_of more
 first_of (Some f ∷ more) = Some f
 
--- what an item breaks, the grammar before the limits
+-- what an item breaks: the limit of lines, then the grammar, then the other limits
 abbrev pub item_fault : Known → Item → Option ScriptFault
 item_fault known i =
     first_of
-    (fault_if (not (are_words i.words && has_text i)) (Malformed i.line NotBuilt)
+    (fault_if (nat_lt most_lines i.line) (TooLarge Lines)
+    ∷ option_map (λ cause. Malformed i.line cause) (line_cause i.words (has_text i))
+    ∷ fault_if (nat_lt most_text (length (text_bytes i))) (TooLarge LongText)
+    ∷ fault_if (nat_lt most_rows (known_after known i).rows) (TooLarge Rows)
     ∷ fault_if (nat_lt most_labels (length (known_after known i).labels)) (TooLarge Labels) ∷ [])
 
 abbrev pub put_first : ScriptLine → Result (List ScriptLine) ScriptFault → Result (List ScriptLine) ScriptFault
@@ -195,13 +255,23 @@ abbrev pub unless_fault : Option ScriptFault → ScriptLine → Result (List Scr
 unless_fault None x more = put_first x more
 unless_fault (Some e) x more = Err e
 
--- the calls of items, or the first fault
-abbrev pub calls_of : Known → List Item → Result (List ScriptLine) ScriptFault
-calls_of known [] = Ok []
-calls_of known (i ∷ is) = unless_fault (item_fault known i) (known_call known i) (calls_of (known_after known i) is)
+abbrev pub ends_as : Option ScriptFault → Result (List ScriptLine) ScriptFault
+ends_as None = Ok []
+ends_as (Some e) = Err e
+
+-- the calls of items, or the first fault; what stands behind them may have one, too
+abbrev pub calls_of : Option ScriptFault → Known → List Item → Result (List ScriptLine) ScriptFault
+calls_of behind known [] = ends_as behind
+calls_of behind known (i ∷ is) =
+    unless_fault (item_fault known i) (known_call known i) (calls_of behind (known_after known i) is)
+
+-- lines are too many, whatever stands in the last of them
+abbrev pub lines_fault : List TextLine → Option ScriptFault
+lines_fault lines = fault_if (nat_lt most_lines (length lines)) (TooLarge Lines)
+
+abbrev pub script_of : List TextLine → Result (List ScriptLine) ScriptFault
+script_of lines = calls_of (lines_fault lines) known_first (items 1 0 lines)
 
 -- the script that these bytes are, or the first line that breaks the grammar or a limit
 abbrev pub parse : List ℕ → Result (List ScriptLine) ScriptFault
-parse bytes =
-    if nat_lt most_bytes (length bytes) then Err (TooLarge Bytes)
-    else calls_of known_first (items 1 0 (lines_from 0 bytes))
+parse bytes = if nat_lt most_bytes (length bytes) then Err (TooLarge Bytes) else script_of (lines_from 0 bytes)

@@ -1,4 +1,4 @@
-use Rattle.std.specs.Prelude.{ℕ, ◌+◌, ◌-◌, ◌*◌, Bool, true, false, ◌&&◌, not, ◌==◌, if◌then◌else◌, List, [], ◌∷◌, Option, Some, None, is_ok, is_some, codes, length, drop, nat_lt, nat_le}
+use Rattle.std.specs.Prelude.{ℕ, ◌+◌, ◌-◌, ◌*◌, Bool, false, ◌&&◌, ◌||◌, not, ◌==◌, if◌then◌else◌, List, [], ◌∷◌, Option, Some, None, is_ok, is_some, codes, length, drop, nat_lt, nat_le}
 use Rattle.std.specs.List.{list_all, list_any}
 use Rattle.std.specs.Map.{lookup}
 use Rattle.std.specs.Str.{bytes_eq}
@@ -53,6 +53,41 @@ verbs =
 abbrev pub verb_of : List ℕ → Option Verb
 verb_of name = lookup (bytes_eq name) verbs
 
+abbrev pub is_one_of : List (List ℕ) → List ℕ → Bool
+is_one_of names name = list_any (bytes_eq name) names
+
+-- the verbs that scripts will have and do not have yet, by families
+abbrev pub unbuilt_task_verbs : List (List ℕ)
+unbuilt_task_verbs = codes "fork" ∷ codes "exit" ∷ codes "exec" ∷ codes "wait" ∷ codes "kill" ∷ codes "take" ∷ codes "trace" ∷ []
+
+abbrev pub unbuilt_tree_verbs : List (List ℕ)
+unbuilt_tree_verbs = codes "mkdir" ∷ codes "rmdir" ∷ codes "rename" ∷ codes "setattr" ∷ codes "delattr" ∷ codes "getattr" ∷ []
+
+abbrev pub unbuilt_open_verbs : List (List ℕ)
+unbuilt_open_verbs = codes "open" ∷ codes "read" ∷ codes "put" ∷ codes "close" ∷ codes "map" ∷ codes "unmap" ∷ []
+
+abbrev pub unbuilt_socket_verbs : List (List ℕ)
+unbuilt_socket_verbs = codes "socket" ∷ codes "sockattr" ∷ codes "send" ∷ codes "connect" ∷ codes "say" ∷ codes "recv" ∷ codes "inject" ∷ codes "shut" ∷ []
+
+abbrev pub unbuilt_message_verbs : List (List ℕ)
+unbuilt_message_verbs = codes "msgnew" ∷ codes "msgsnd" ∷ codes "msgrcv" ∷ codes "msgrm" ∷ []
+
+abbrev pub unbuilt_semaphore_verbs : List (List ℕ)
+unbuilt_semaphore_verbs = codes "semnew" ∷ codes "semop" ∷ codes "semget" ∷ codes "semrm" ∷ []
+
+abbrev pub unbuilt_segment_verbs : List (List ℕ)
+unbuilt_segment_verbs = codes "shmnew" ∷ codes "shmat" ∷ codes "shmread" ∷ codes "shmwrite" ∷ codes "shmdt" ∷ codes "shmrm" ∷ []
+
+abbrev pub is_unbuilt_verb : List ℕ → Bool
+is_unbuilt_verb name =
+    is_one_of unbuilt_task_verbs name
+    || is_one_of unbuilt_tree_verbs name
+    || is_one_of unbuilt_open_verbs name
+    || is_one_of unbuilt_socket_verbs name
+    || is_one_of unbuilt_message_verbs name
+    || is_one_of unbuilt_semaphore_verbs name
+    || is_one_of unbuilt_segment_verbs name
+
 -- the words behind each verb
 abbrev pub task_kinds : TaskVerb → List WordKind
 task_kinds Relabel = Label ∷ []
@@ -80,18 +115,28 @@ capabilities =
 abbrev pub cap_of : List ℕ → Option Cap
 cap_of name = lookup (bytes_eq name) capabilities
 
--- a path of at most one name: its only slash is the first; the only directory so far is the root
-abbrev pub is_root_path : List ℕ → Bool
-is_root_path word = is_ok (path_of word) && not (list_any is_slash (drop 1 word))
+-- a letter, a digit or an underscore
+abbrev pub is_task_byte : ℕ → Bool
+is_task_byte b = is_digit b || (nat_le 65 b && nat_le b 90) || (nat_le 97 b && nat_le b 122) || (b == 95)
+
+-- a name of a task: 1 to 16 of these
+abbrev pub is_task_name : List ℕ → Bool
+is_task_name word = nat_le 1 (length word) && nat_le (length word) 16 && list_all is_task_byte word
+
+-- a path of more than one name: it has a slash behind the first byte; the only directory so far is the root
+abbrev pub is_deep : List ℕ → Bool
+is_deep word = list_any is_slash (drop 1 word)
 
 -- the files whose texts are calls on the writing task; no script has them yet
 abbrev pub self_files : List (List ℕ)
 self_files = codes "load-self2" ∷ codes "load-self" ∷ codes "relabel-self" ∷ []
 
--- a name of a file: 1 to 32 bytes from ! to ~, and none of those
+abbrev pub is_self_file : List ℕ → Bool
+is_self_file name = is_one_of self_files name
+
+-- a name of a file: 1 to 32 bytes from ! to ~
 abbrev pub is_file_name : List ℕ → Bool
-is_file_name word =
-    nat_le 1 (length word) && nat_le (length word) 32 && list_all is_name_byte word && not (list_any (bytes_eq word) self_files)
+is_file_name word = nat_le 1 (length word) && nat_le (length word) 32 && list_all is_name_byte word
 
 -- whether a word is of a kind
 abbrev pub is_of_kind : WordKind → List ℕ → Bool
@@ -99,12 +144,21 @@ is_of_kind Label word = is_label word
 is_of_kind Modes word = is_modes word
 is_of_kind File word = is_file_name word
 is_of_kind Number word = is_some (number_of word)
-is_of_kind Path word = is_root_path word
+is_of_kind Path word = is_ok (path_of word)
 is_of_kind Capability word = is_some (cap_of word)
 
--- these words are as many as the kinds, and each is of its kind
-abbrev pub are_of_kinds : List WordKind → List Placed → Bool
-are_of_kinds [] [] = true
-are_of_kinds [] (w ∷ ws) = false
-are_of_kinds (k ∷ ks) [] = false
-are_of_kinds (k ∷ ks) (w ∷ ws) = is_of_kind k w.bytes && are_of_kinds ks ws
+-- The number in the line of the first word that is not of its kind, where the first of these words has this number.
+abbrev pub bad_word : ℕ → List WordKind → List Placed → Option ℕ
+bad_word k [] ws = None
+bad_word k (d ∷ ds) [] = None
+bad_word k (d ∷ ds) (w ∷ ws) = if is_of_kind d w.bytes then bad_word (k + 1) ds ws else Some k
+
+abbrev pub is_deep_path : WordKind → List ℕ → Bool
+is_deep_path Path word = is_deep word
+is_deep_path _ word = false
+
+-- whether one of the words that stand for paths has more than one name
+abbrev pub has_deep_path : List WordKind → List Placed → Bool
+has_deep_path [] ws = false
+has_deep_path (d ∷ ds) [] = false
+has_deep_path (d ∷ ds) (w ∷ ws) = is_deep_path d w.bytes || has_deep_path ds ws

@@ -1,4 +1,4 @@
-use Rattle.std.specs.Prelude.{ℕ, ◌+◌, ◌-◌, ◌&&◌, if◌then◌else◌, List, [], ◌∷◌, Option, Some, None, Result, Ok, Err, map, take, codes, count_by, nat_le}
+use Rattle.std.specs.Prelude.{ℕ, ◌+◌, ◌-◌, ◌&&◌, if◌then◌else◌, List, [], ◌∷◌, Option, Some, None, Result, Ok, Err, length, map, take, codes, count_by, nat_le}
 use Rattle.std.specs.List.{flat_map}
 use Rattle.std.specs.Map.{lookup}
 use Rattle.std.specs.Str.{bytes_eq}
@@ -119,3 +119,12 @@ names_of_writes (Ok writes) = flat_map names_of writes
 abbrev pub names_of_text : Option RuleFile → List ℕ → List (List ℕ)
 names_of_text None text = []
 names_of_text (Some file) text = names_of_writes (writes_of_text file text)
+
+-- how many rows of a journal writes take: one each, and one for their batch
+abbrev pub rows_of_writes : Result (List NamedWrite) BadLine → ℕ
+rows_of_writes (Err bad) = 0
+rows_of_writes (Ok writes) = length writes + 1
+
+abbrev pub rows_of_text : Option RuleFile → List ℕ → ℕ
+rows_of_text None text = 0
+rows_of_text (Some file) text = rows_of_writes (writes_of_text file text)

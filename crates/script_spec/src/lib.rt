@@ -56,7 +56,7 @@ pub enum WordKind {
     File,
     /// A decimal number up to 4,294,967,295.
     Number,
-    /// The path of the root directory, or of a file in it.
+    /// A path.
     Path,
     /// The name of a capability.
     Capability,
@@ -84,10 +84,12 @@ pub enum RuleFile {
     Logging,
 }
 
-/// Why a line is not in the grammar of scripts.
+/// Why a line is not in the grammar of scripts, the first that applies: `Word { k: 1 }`, `Verb`,
+/// `NotBuilt`, `Words`, `Word`, `Text`, `Task`, `Name`, `Wait`; a path that is not built comes behind
+/// the kinds of the words.
 #[derive(Clone, Copy, Debug, PartialEq, Eq)]
 pub enum Cause {
-    /// The task does not run here.
+    /// The task does not run here: so far only `init` does.
     Task,
     /// The second word is missing, or it is no verb.
     Verb,
@@ -101,7 +103,7 @@ pub enum Cause {
     Name,
     /// The task that is waited for is not the one to wait for.
     Wait,
-    /// The line is of a kind that this program does not have.
+    /// The verb, the file or the path is of a kind that this program does not have yet.
     NotBuilt,
 }
 

@@ -1,5 +1,5 @@
-use Rattle.std.proofs.Common.{◌≡◌, ◌≤◌, ◌<◌, ◌+◌, ℕ, Bool, true, false, suc, List, [], ◌∷◌, ◌++◌, length, drop, get_or, refl, sym, ap, ◌∙◌, arith, Option, Some, None}
-use Rattle.std.specs.Prelude.{map, ◌&&◌}
+use Rattle.std.proofs.Common.{◌≡◌, ◌≤◌, ◌<◌, ◌+◌, ℕ, Bool, true, false, List, [], ◌∷◌, ◌++◌, length, drop, get_or, refl, ◌∙◌, arith, Option, Some, None}
+use Rattle.std.specs.Prelude.{map, ◌&&◌, if◌then◌else◌}
 use Rattle.std.specs.List.{list_all}
 use Rattle.std.proofs.lemmas.List.{drop_more}
 use Rattle.std.proofs.lemmas.Grind.{fold-append}
@@ -14,10 +14,10 @@ use Rattle.script_spec.specs.declared.Verb.{Verb}
 use Rattle.script_spec.specs.declared.Verb.TheVariants.{Write, Ask, Task, Tree}
 use Rattle.script_spec.specs.declared.TaskVerb.TheVariants.{Relabel, Drop}
 use Rattle.script_spec.specs.declared.TreeVerb.TheVariants.{Create, Unlink, List as ListNames}
-use Rattle.script_spec.specs.Words.{are_of_kinds, is_of_kind, kinds_of}
+use Rattle.script_spec.specs.Words.{bad_word, is_of_kind, kinds_of}
 use Rattle.script_spec.specs.Grammar.{label_words, stands_for_label, word_at, absent}
 use Rattle.script_text.specs.HasLabels.{AreLabels}
-use Rattle.script_text.proofs.WriteNames.{with_name-longer, with_names-longer}
+use Rattle.script_text.proofs.WriteNames.{with_names-longer}
 
 and_left : (x y : Bool) → (x && y) ≡ true → x ≡ true
 and_left true y e = refl
@@ -97,26 +97,26 @@ pub front_many : (table names more : List (List ℕ)) (most : ℕ) → most < le
 front_many table names more most many =
     rw (fold-append with_name table names more) (omega (arith, many, with_names-longer (with_names table names) more))
 
--- words of their kinds, and any behind them: those that stand for labels are labels
-labels_in_front : (ks : List WordKind) (ws more : List Placed) → are_of_kinds ks ws ≡ true → list_all is_label (label_words ks (ws ++ more)) ≡ true
-labels_in_front [] [] [] e = refl
-labels_in_front [] [] (m ∷ ms) e = refl
-labels_in_front [] (w ∷ ws) more e = cc
-labels_in_front (k ∷ ks) [] more e = cc
-labels_in_front (Label ∷ ks) (w ∷ ws) more e =
-    rw (and_left (is_label w.bytes) (are_of_kinds ks ws) e) (labels_in_front ks ws more (and_right (is_label w.bytes) (are_of_kinds ks ws) e))
-labels_in_front (Modes ∷ ks) (w ∷ ws) more e = labels_in_front ks ws more (and_right (is_of_kind Modes w.bytes) (are_of_kinds ks ws) e)
-labels_in_front (File ∷ ks) (w ∷ ws) more e = labels_in_front ks ws more (and_right (is_of_kind File w.bytes) (are_of_kinds ks ws) e)
-labels_in_front (Number ∷ ks) (w ∷ ws) more e = labels_in_front ks ws more (and_right (is_of_kind Number w.bytes) (are_of_kinds ks ws) e)
-labels_in_front (Path ∷ ks) (w ∷ ws) more e = labels_in_front ks ws more (and_right (is_of_kind Path w.bytes) (are_of_kinds ks ws) e)
-labels_in_front (Capability ∷ ks) (w ∷ ws) more e = labels_in_front ks ws more (and_right (is_of_kind Capability w.bytes) (are_of_kinds ks ws) e)
+-- a word before a first bad one is of its kind
+word_good : (is : Bool) (n : ℕ) (more : Option ℕ) → (if is then more else Some n) ≡ None → (is ≡ true) × (more ≡ None)
+word_good true n more e = (refl, e)
+word_good false n more e = cc
 
--- words of their kinds are as many as the kinds
-as_many : (ks : List WordKind) (ws : List Placed) → are_of_kinds ks ws ≡ true → length ws ≡ length ks
-as_many [] [] e = refl
-as_many [] (w ∷ ws) e = cc
-as_many (k ∷ ks) [] e = cc
-as_many (k ∷ ks) (w ∷ ws) e = ap suc (as_many ks ws (and_right (is_of_kind k w.bytes) (are_of_kinds ks ws) e))
+-- words of their kinds, and any behind them: those that stand for labels are labels
+labels_in_front : (n : ℕ) (ks : List WordKind) (ws more : List Placed) → length ws ≡ length ks → bad_word n ks ws ≡ None
+    → list_all is_label (label_words ks (ws ++ more)) ≡ true
+labels_in_front n [] [] [] many e = refl
+labels_in_front n [] [] (m ∷ ms) many e = refl
+labels_in_front n [] (w ∷ ws) more many e = absurd (omega (arith, many))
+labels_in_front n (k ∷ ks) [] more many e = absurd (omega (arith, many))
+labels_in_front n (Label ∷ ks) (w ∷ ws) more many e =
+    let good = word_good (is_label w.bytes) n (bad_word (n + 1) ks ws) e in
+    rw (good.0) (labels_in_front (n + 1) ks ws more (omega (arith, many)) (good.1))
+labels_in_front n (Modes ∷ ks) (w ∷ ws) more many e = labels_in_front (n + 1) ks ws more (omega (arith, many)) (word_good (is_of_kind Modes w.bytes) n (bad_word (n + 1) ks ws) e).1
+labels_in_front n (File ∷ ks) (w ∷ ws) more many e = labels_in_front (n + 1) ks ws more (omega (arith, many)) (word_good (is_of_kind File w.bytes) n (bad_word (n + 1) ks ws) e).1
+labels_in_front n (Number ∷ ks) (w ∷ ws) more many e = labels_in_front (n + 1) ks ws more (omega (arith, many)) (word_good (is_of_kind Number w.bytes) n (bad_word (n + 1) ks ws) e).1
+labels_in_front n (Path ∷ ks) (w ∷ ws) more many e = labels_in_front (n + 1) ks ws more (omega (arith, many)) (word_good (is_of_kind Path w.bytes) n (bad_word (n + 1) ks ws) e).1
+labels_in_front n (Capability ∷ ks) (w ∷ ws) more many e = labels_in_front (n + 1) ks ws more (omega (arith, many)) (word_good (is_of_kind Capability w.bytes) n (bad_word (n + 1) ks ws) e).1
 
 -- no verb has more than three words behind it
 few_kinds : (verb : Verb) → length (kinds_of verb) ≤ 3
@@ -128,15 +128,15 @@ few_kinds (Tree Create) = omega arith
 few_kinds (Tree Unlink) = omega arith
 few_kinds (Tree ListNames) = omega arith
 
-first_three : (ks : List WordKind) (ws : List Placed) → length ks ≤ 3 → are_of_kinds ks ws ≡ true
+first_three : (ks : List WordKind) (ws : List Placed) → length ks ≤ 3 → length ws ≡ length ks → bad_word 3 ks ws ≡ None
     → AreLabels (label_words ks (word_at 0 ws ∷ word_at 1 ws ∷ word_at 2 ws ∷ []))
-first_three ks [] few e = labels_in_front ks [] (absent ∷ absent ∷ absent ∷ []) e
-first_three ks (a ∷ []) few e = labels_in_front ks (a ∷ []) (absent ∷ absent ∷ []) e
-first_three ks (a ∷ b ∷ []) few e = labels_in_front ks (a ∷ b ∷ []) (absent ∷ []) e
-first_three ks (a ∷ b ∷ c ∷ []) few e = labels_in_front ks (a ∷ b ∷ c ∷ []) [] e
-first_three ks (a ∷ b ∷ c ∷ d ∷ ws) few e = absurd (omega (arith, few, as_many ks (a ∷ b ∷ c ∷ d ∷ ws) e))
+first_three ks [] few many e = labels_in_front 3 ks [] (absent ∷ absent ∷ absent ∷ []) many e
+first_three ks (a ∷ []) few many e = labels_in_front 3 ks (a ∷ []) (absent ∷ absent ∷ []) many e
+first_three ks (a ∷ b ∷ []) few many e = labels_in_front 3 ks (a ∷ b ∷ []) (absent ∷ []) many e
+first_three ks (a ∷ b ∷ c ∷ []) few many e = labels_in_front 3 ks (a ∷ b ∷ c ∷ []) [] many e
+first_three ks (a ∷ b ∷ c ∷ d ∷ ws) few many e = absurd (omega (arith, few, many))
 
 -- the words of a call that stand for labels are labels
-pub word_labels : (verb : Verb) (ws : List Placed) → are_of_kinds (kinds_of verb) ws ≡ true
+pub word_labels : (verb : Verb) (ws : List Placed) → length ws ≡ length (kinds_of verb) → bad_word 3 (kinds_of verb) ws ≡ None
     → AreLabels (label_words (kinds_of verb) (word_at 0 ws ∷ word_at 1 ws ∷ word_at 2 ws ∷ []))
-word_labels verb ws e = first_three (kinds_of verb) ws (few_kinds verb) e
+word_labels verb ws many e = first_three (kinds_of verb) ws (few_kinds verb) many e

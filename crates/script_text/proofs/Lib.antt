@@ -1,6 +1,7 @@
 pub mod Numbers
-pub mod KindsOfWords
+pub mod LineCauses
 pub mod WriteNames
 pub mod LabelWords
+pub mod WriteCounts
 pub mod Spelling
 pub mod ReadingOn

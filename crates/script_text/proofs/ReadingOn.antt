@@ -1,7 +1,7 @@
 use Rattle.std.proofs.Common.{◌≡◌, ◌≤◌, ◌<◌, ◌+◌, ◌-◌, ℕ, zero, suc, false, List, [], ◌∷◌, ◌++◌, length, drop, refl, sym, ap, ◌∙◌, arith, append_assoc, Ok, Err, nat_eq, add-zero, length-append}
 use Rattle.std.specs.Prelude.{Option, Result}
 use Rattle.std.specs.List.{flat_map}
-use Rattle.std.proofs.lemmas.List.{append-nil}
+use Rattle.std.proofs.lemmas.List.{append-nil, length-drop}
 use Rattle.std.proofs.lemmas.Bool.{ne_eqb}
 use Rattle.std.proofs.lemmas.Grind.{fold-append, flat_map-append}
 use Rattle.text_spec.specs.Texts.{TextLine, whole_line, whole_lines, is_space}
@@ -11,7 +11,7 @@ use Rattle.rule_text.specs.declared.part.Part.{Part}
 use Rattle.rule_text.specs.Parts.{lines_of, words_of, end_of, first_line, as_line}
 use Rattle.script_spec.specs.declared.ScriptFault.{ScriptFault}
 use Rattle.script_spec.specs.declared.ScriptFault.TheVariants.{Malformed, TooLarge, Memory}
-use Rattle.script_spec.specs.Grammar.{ScriptLine, Item, Known, item_of, items, is_skipped, text_count, item_fault, known_call, known_after, known_first, calls_of, put_first, unless_fault, table_of, labels_of, most_labels}
+use Rattle.script_spec.specs.Grammar.{ScriptLine, Item, Known, item_of, items, is_skipped, text_count, item_fault, known_call, known_after, calls_of, script_of, lines_fault, put_first, unless_fault, table_of, labels_of, most_lines, most_rows, most_labels}
 use Rattle.script_text.specs.declared.reading.Draft.{Draft}
 use Rattle.script_text.specs.declared.reading.Place.{Place}
 use Rattle.script_text.specs.declared.reading.Found.{Found}
@@ -24,12 +24,18 @@ put_all front (Err e) = Err e
 
 -- what is read so far, and what is left, make the whole
 pub record ReadsOn (d : Draft) (place : Place) (text : Part) : Type 0 where
-  pub reads : put_all (calls_seen d) (calls_of (known_of d) (items place.line 0 (lines_of place.rest))) ≡ calls_of known_first (items 1 0 (lines_of text))
+  pub reads :
+      put_all (calls_seen d) (calls_of (lines_fault (lines_of text)) (known_of d) (items place.line 0 (lines_of place.rest)))
+      ≡ script_of (lines_of text)
   pub labels : d.labels ≡ table_of (calls_seen d)
   pub limit : length d.labels ≤ most_labels
+  pub rows : d.rows ≤ most_rows
   pub ends : end_of place.rest ≡ end_of text
   pub fewer : place.line + length place.rest.bytes.now ≤ 1 + length text.bytes.now
+  pub total : place.line + length (lines_of place.rest) ≡ 1 + length (lines_of text)
   pub count : length d.lines.items + length place.rest.bytes.now ≤ length text.bytes.now
+  pub behind : length d.lines.items < place.line
+  pub few : length d.lines.items ≤ most_lines
 
 -- lines of text are passed over
 pub items_pass : (line n : ℕ) (ls : List TextLine) → items line n ls ≡ items (line + n) 0 (drop n ls)
@@ -89,11 +95,15 @@ pub item_fails : (d : Draft) (place : Place) (text line after : Part) (e : Scrip
     → lines_of place.rest ≡ first_line place.rest line ∷ lines_of after → line.at ≡ place.rest.at → end_of after ≡ end_of place.rest
     → is_skipped (as_line line) ≡ false
     → HasFault (item_fault (known_of d) (item_found (record { number = place.line; line = line; after = after }))) e
-    → Fails e (calls_of known_first (items 1 0 (lines_of text)))
+    → Fails e (script_of (lines_of text))
 item_fails d place text line after e on cut begins ends called has =
     let f : Found = record { number = place.line; line = line; after = after } in
     let items_are = items_cut place.rest f cut begins ends called in
     fails_as e _ _ (calls_seen d) _ _ has (rw items_are at on.reads)
+
+-- no more calls than lines so far
+few_more : (calls calls' line : ℕ) → calls < line → line ≤ most_lines → calls' ≡ calls + 1 → calls' ≤ most_lines
+few_more calls calls' line behind within more = omega (arith, behind, within, more)
 
 -- an item that is read
 pub item_read : (d d' : Draft) (place place' : Place) (text line after : Part) → ReadsOn d place text
@@ -106,18 +116,25 @@ item_read d d' place place' text line after on cut begins ends falls called read
     let known = known_of d in
     let x = known_call known i in
     let count = text_count i.words in
-    let left = calls_of (known_after known i) (items (place.line + 1) count (lines_of after)) in
+    let behind = lines_fault (lines_of text) in
+    let left = calls_of behind (known_after known i) (items (place.line + 1) count (lines_of after)) in
     let items_are = items_cut place.rest f cut begins ends called in
     let passed : items place'.line 0 (lines_of place'.rest) ≡ items (place.line + 1) count (lines_of after) =
     rw (read.line, read.rest) (sym (items_pass (place.line + 1) count (lines_of after))) in
-    let one : calls_of known (items place.line 0 (lines_of place.rest)) ≡ put_first x left = rw (items_are, read.good) refl in
+    let one : calls_of behind known (items place.line 0 (lines_of place.rest)) ≡ put_first x left = rw (items_are, read.good) refl in
+    let lines : length (lines_of place.rest) ≡ suc (length (lines_of after)) = ap length cut in
+    let rest : length (lines_of place'.rest) ≡ length (lines_of after) - count = ap length read.rest ∙ length-drop count (lines_of after) in
     record {
       reads = rw (read.calls, read.known, passed) (put_one (calls_seen d) x left ∙ ap (put_all (calls_seen d)) (sym one) ∙ on.reads);
       labels =
           ap (λ (k : Known). k.labels) read.known ∙ ap (λ (t : List (List ℕ)). with_names t (labels_of x)) on.labels
           ∙ sym (table_more (calls_seen d) x) ∙ ap table_of (sym read.calls);
       limit = read.limit;
+      rows = read.most;
       ends = read.ends ∙ ends ∙ on.ends;
       fewer = omega (arith, read.fewer, falls, on.fewer);
+      total = omega (arith, on.total, lines, rest, read.line, read.there);
       count = omega (arith, read.count, read.fewer, falls, on.count);
+      behind = omega (arith, read.count, read.line, on.behind);
+      few = few_more _ _ place.line on.behind read.within read.count;
     }

@@ -1,16 +1,16 @@
-use Rattle.std.specs.Prelude.{◌≡◌, ◌≤◌, ℕ, ◌+◌, Bool, true, ◌&&◌, List, ◌++◌, [], ◌∷◌, not, Option, Some, None, Result, Ok, Err, is_ok, length, map, take, drop, nat_le, nat_lt}
+use Rattle.std.specs.Prelude.{◌≡◌, ◌≤◌, ℕ, ◌+◌, List, ◌++◌, [], ◌∷◌, Option, Some, None, Result, Ok, Err, length, map, take, drop, nat_lt}
 use Rattle.text_spec.specs.Texts.{TextLine, whole_lines, is_space}
 use Rattle.rule_text.specs.declared.part.Part.{Part}
 use Rattle.rule_text.specs.Parts.{lines_of, words_of, end_of, Fits}
 use Rattle.script_spec.specs.declared.ScriptFault.{ScriptFault}
 use Rattle.script_spec.specs.declared.ScriptFault.TheVariants.{Malformed, TooLarge, Memory}
-use Rattle.script_spec.specs.Grammar.{ScriptLine, Item, Known, text_count, call_of, known_call, known_after, known_first, item_fault, items, calls_of, table_of, are_words, has_text, fault_if, labels_of, most_bytes, most_labels}
+use Rattle.script_spec.specs.Grammar.{ScriptLine, Item, Known, text_count, call_of, known_call, known_after, item_fault, script_of, table_of, line_cause, has_text, fault_if, first_of, rows_of, labels_of, most_bytes, most_lines, most_text, most_rows, most_labels}
 use Rattle.script_text.specs.declared.line.Line.{Line}
 use Rattle.script_text.specs.declared.reading.Draft.{Draft}
 use Rattle.script_text.specs.declared.reading.Place.{Place}
 use Rattle.script_text.specs.declared.reading.Found.{Found}
-use Rattle.script_spec.specs.declared.Cause.TheVariants.{NotBuilt}
-use Rattle.script_spec.specs.declared.What.TheVariants.{Labels}
+use Rattle.std.specs.Option.{option_map}
+use Rattle.script_spec.specs.declared.What.TheVariants.{Text as LongText, Rows, Labels}
 use Rattle.text_spec.specs.Names.{with_names}
 use Rattle.script_text.specs.HasLabels.{HasLabels}
 use Rattle.script_text.specs.Lines.{call_seen}
@@ -31,7 +31,7 @@ abbrev pub calls_seen : Draft → List ScriptLine
 calls_seen d = map call_seen d.lines.items
 
 abbrev pub known_of : Draft → Known
-known_of d = record { calls = length d.lines.items; labels = d.labels }
+known_of d = record { calls = length d.lines.items; rows = d.rows; labels = d.labels }
 
 -- why an item was not read; want of memory is free
 abbrev pub HasFault : Option ScriptFault → ScriptFault → Type 0
@@ -43,6 +43,7 @@ HasFault fault (TooLarge what) = fault ≡ Some (TooLarge what)
 pub record IsTextOf (count : ℕ) (after text rest : Part) : Type 0 where
   pub at : text.at ≡ after.at
   pub bytes : text.bytes.now ≡ whole_lines (take count (lines_of after))
+  pub there : count ≤ length (lines_of after)
   pub behind : lines_of rest ≡ drop count (lines_of after)
   pub ends : end_of rest ≡ end_of after
   pub fewer : count + length rest.bytes.now ≤ length after.bytes.now
@@ -59,11 +60,33 @@ item_found f = record {
 
 -- what is wrong with the words or the text of an item
 abbrev pub words_fault : Item → Option ScriptFault
-words_fault i = fault_if (not (are_words i.words && has_text i)) (Malformed i.line NotBuilt)
+words_fault i = option_map (λ cause. Malformed i.line cause) (line_cause i.words (has_text i))
 
 -- what is wrong with the labels of a call, behind those of this table
 abbrev pub labels_fault : List (List ℕ) → ScriptLine → Option ScriptFault
 labels_fault labels l = fault_if (nat_lt most_labels (length (with_names labels (labels_of l)))) (TooLarge Labels)
+
+-- what is wrong with the size of a text, or with the rows of a journal, of which so many are taken
+abbrev pub size_fault : ℕ → ScriptLine → Option ScriptFault
+size_fault rows l =
+    first_of
+    (fault_if (nat_lt most_text (length l.text.bytes)) (TooLarge LongText)
+    ∷ fault_if (nat_lt most_rows (rows + rows_of l)) (TooLarge Rows) ∷ [])
+
+-- what is wrong with a call by the limits, behind what is known
+abbrev pub limits_fault : Known → ScriptLine → Option ScriptFault
+limits_fault known l =
+    first_of
+    (fault_if (nat_lt most_text (length l.text.bytes)) (TooLarge LongText)
+    ∷ fault_if (nat_lt most_rows (known.rows + rows_of l)) (TooLarge Rows)
+    ∷ fault_if (nat_lt most_labels (length (with_names known.labels (labels_of l)))) (TooLarge Labels) ∷ [])
+
+-- the rows of a call are counted
+pub record IsCounted (rows : ℕ) (l : ScriptLine) (sum : ℕ) : Type 0 where
+  pub good : size_fault rows l ≡ None
+  pub is : sum ≡ rows + rows_of l
+  pub limit : sum ≤ most_rows
+  pub short : length l.text.bytes ≤ most_text
 
 -- a line that was found lies in an input of a script's size
 pub record IsWithin (f : Found) : Type 0 where
@@ -78,6 +101,7 @@ pub record IsSpelled (seq : ℕ) (f : Found) (call : Line) (place : Place) : Typ
   pub labels : HasLabels (call_seen call)
   pub rest : lines_of place.rest ≡ drop (text_count (item_found f).words) (lines_of f.after)
   pub line : place.line ≡ f.number + 1 + text_count (item_found f).words
+  pub there : text_count (item_found f).words ≤ length (lines_of f.after)
   pub ends : end_of place.rest ≡ end_of f.after
   pub fewer : place.line + length place.rest.bytes.now ≤ f.number + 1 + length f.after.bytes.now
 
@@ -85,6 +109,17 @@ pub record IsSpelled (seq : ℕ) (f : Found) (call : Line) (place : Place) : Typ
 pub record IsAdded (old new : Draft) (call : ScriptLine) : Type 0 where
   pub good : labels_fault old.labels call ≡ None
   pub calls : calls_seen new ≡ calls_seen old ++ call ∷ []
+  pub rows : new.rows ≡ old.rows
+  pub labels : new.labels ≡ with_names old.labels (labels_of call)
+  pub limit : length new.labels ≤ most_labels
+  pub count : length new.lines.items ≡ length old.lines.items + 1
+
+-- one more call, with its rows and its labels
+pub record IsSized (old new : Draft) (call : ScriptLine) : Type 0 where
+  pub good : limits_fault (known_of old) call ≡ None
+  pub calls : calls_seen new ≡ calls_seen old ++ call ∷ []
+  pub rows : new.rows ≡ old.rows + rows_of call
+  pub most : new.rows ≤ most_rows
   pub labels : new.labels ≡ with_names old.labels (labels_of call)
   pub limit : length new.labels ≤ most_labels
   pub count : length new.lines.items ≡ length old.lines.items + 1
@@ -94,15 +129,18 @@ pub record IsItemRead (old new : Draft) (f : Found) (place : Place) : Type 0 whe
   pub good : item_fault (known_of old) (item_found f) ≡ None
   pub calls : calls_seen new ≡ calls_seen old ++ known_call (known_of old) (item_found f) ∷ []
   pub known : known_of new ≡ known_after (known_of old) (item_found f)
+  pub within : f.number ≤ most_lines
+  pub most : new.rows ≤ most_rows
   pub limit : length new.labels ≤ most_labels
   pub count : length new.lines.items ≡ length old.lines.items + 1
   pub rest : lines_of place.rest ≡ drop (text_count (item_found f).words) (lines_of f.after)
   pub line : place.line ≡ f.number + 1 + text_count (item_found f).words
+  pub there : text_count (item_found f).words ≤ length (lines_of f.after)
   pub ends : end_of place.rest ≡ end_of f.after
   pub fewer : place.line + length place.rest.bytes.now ≤ f.number + 1 + length f.after.bytes.now
 
 -- a draft has all the calls of some lines, and their label table
 pub record IsWhole (d : Draft) (lines : List TextLine) : Type 0 where
-  pub calls : calls_of known_first (items 1 0 lines) ≡ Ok (calls_seen d)
+  pub calls : script_of lines ≡ Ok (calls_seen d)
   pub labels : d.labels ≡ table_of (calls_seen d)
-  pub few : length d.lines.items ≤ most_bytes
+  pub few : length d.lines.items ≤ most_lines

@@ -163,6 +163,7 @@ fn add_text_labels(
 /// Adds the labels of a call. `TooMany` comes where more than 65,535 would stand.
 pub fn add_labels(labels: &mut Labels, call: &Line<'_>) -> Result<(), LabelsFault>
     requires labels { HasLabels (call_seen call.now) }
+    requires short { length call.now.text.bytes.now ≤ 65536 }
     requires limit { length labels.old ≤ most_labels }
     ensures ok { OnOk result (labels.new ≡ with_names labels.old (labels_of (call_seen call.now))) }
     ensures limit { OnOk result (length labels.new ≤ most_labels) }

@@ -7,9 +7,11 @@
 //! Stands on rule_text for lines and words and on label_table for the labels.
 #![tactic(auto)]
 
+mod causes;
 mod labels;
 mod line;
 mod reading;
+mod rows;
 mod script;
 #[cfg(test)]
 mod tests;

@@ -1,26 +1,32 @@
 ghost use Rattle.std.specs.Prelude.{◌≡◌, ◌≤◌, ◌<◌, ◌+◌, ◌^◌, ◌∷◌, ◌++◌, [], length, map, drop, slice_index_or, vec_len, nat_le, None, Err, MatchResult, MatchOption, IfSome, OnOk, IfOk, IfErr, true, false};
 ghost use Rattle.text_spec.specs.Texts.{is_space, Placed};
 ghost use Rattle.rule_text.specs.Parts.{Fits, placed, lines_of, words_of, end_of, as_line};
-ghost use Rattle.script_spec.specs.Grammar.{word_at, text_count as text_count_of_words, labels_of, item_fault, items, calls_of, known_first, is_skipped as is_skipped_line, most_bytes, most_labels};
+ghost use Rattle.script_spec.specs.Grammar.{word_at, text_count as text_count_of_words, labels_of, item_fault, script_of, is_skipped as is_skipped_line, most_bytes, most_text, most_rows, most_labels};
 ghost use Rattle.text_spec.specs.Names.{with_names};
 ghost use Rattle.script_text.specs.Lines.{call_seen, call_by};
 ghost use Rattle.script_text.specs.HasLabels.{HasLabels};
-ghost use Rattle.script_text.specs.Scripts.{known_of, calls_seen, HasFault, IsTextOf, IsWithin, IsSpelled, IsAdded, IsItemRead, IsWhole, Fails, item_found, words_fault, labels_fault};
+ghost use Rattle.script_text.specs.Scripts.{known_of, calls_seen, HasFault, IsTextOf, IsWithin, IsSpelled, IsAdded, IsSized, IsItemRead, IsWhole, Fails, item_found, words_fault, labels_fault, limits_fault};
 
+use crate::causes::{cause_without_text, line_cause};
 use crate::labels::add_labels;
 use crate::line::Line;
-use crate::words::{are_words, spaced_words, text_count};
+use crate::rows::rows_with;
+use crate::words::{spaced_words, text_count};
 use label_table::{Labels, LabelsFault};
 use rule_text::{Part, Separator, split_line, split_lines, split_word};
-use script_spec::{Cause, ScriptFault, What};
+use script_spec::{ScriptFault, What};
 use std::alloc::Global;
 
-/// The calls that are read so far, and their label table.
+/// The calls that are read so far, the rows of a journal that they take, and their label table.
 #[derive(Drop)]
 pub struct Draft<'a> {
     pub lines: Vec<Line<'a>>,
+    pub rows: u32,
     pub labels: Labels,
 }
+
+/// The most lines of a script.
+const MOST_LINES: u32 = 131_072;
 
 /// Where reading goes on: the bytes left, and the number of their first line.
 #[derive(Clone, Copy)]
@@ -89,20 +95,18 @@ fn spell<'a>(alloc: Global, seq: u32, found: Found<'a>) -> Result<Spelled<'a>, S
     ensures ok { IfOk result (λ s. IsSpelled seq found.entry s.call s.place) }
     ensures err { IfErr result (λ e. HasFault (words_fault (item_found found.entry)) e) }
 {
-    let bad = ScriptFault::Malformed {
-        line: found.number,
-        cause: Cause::NotBuilt,
-    };
+    let line = found.number;
     let Ok(words) = spaced_words(alloc, found.line) else {
         return Err(ScriptFault::Memory);
     };
-    if !are_words(words.as_slice()) {
-        return Err(bad);
-    }
     let count = text_count(words.as_slice());
     let Some((text, rest)) = text_of(count, found.after) else {
-        return Err(bad);
+        let cause = cause_without_text(words.as_slice());
+        return Err(ScriptFault::Malformed { line, cause });
     };
+    if let Some(cause) = line_cause(words.as_slice(), true) {
+        return Err(ScriptFault::Malformed { line, cause });
+    }
     Ok(Spelled {
         call: call_of(seq, found.number, words.as_slice(), text),
         place: Place {
@@ -115,6 +119,7 @@ fn spell<'a>(alloc: Global, seq: u32, found: Found<'a>) -> Result<Spelled<'a>, S
 /// Adds a call and its labels.
 fn add_call<'a>(draft: &mut Draft<'a>, call: Line<'a>) -> Result<(), ScriptFault>
     requires labels { HasLabels (call_seen call) }
+    requires short { length call.text.bytes.now ≤ most_text }
     requires limit { length draft.old.labels ≤ most_labels }
     ensures ok { OnOk result (IsAdded draft.old draft.new (call_seen call.entry)) }
     ensures err { IfErr result (λ e. HasFault (labels_fault draft.old.labels (call_seen call.entry)) e) }
@@ -129,6 +134,25 @@ fn add_call<'a>(draft: &mut Draft<'a>, call: Line<'a>) -> Result<(), ScriptFault
     }
 }
 
+/// Adds a call with its rows and its labels.
+fn add_rows<'a>(draft: &mut Draft<'a>, call: Line<'a>) -> Result<(), ScriptFault>
+    requires labels { HasLabels (call_seen call) }
+    requires limit { length draft.old.labels ≤ most_labels }
+    requires rows { draft.old.rows ≤ most_rows }
+    ensures ok { OnOk result (IsSized draft.old draft.new (call_seen call.entry)) }
+    ensures err { IfErr result (λ e. HasFault (limits_fault (known_of draft.old) (call_seen call.entry)) e) }
+{
+    let rows = match rows_with(draft.rows, &call) {
+        Ok(rows) => rows,
+        Err(fault) => return Err(fault),
+    };
+    if let Err(fault) = add_call(draft, call) {
+        return Err(fault);
+    }
+    draft.rows = rows;
+    Ok(())
+}
+
 /// Reads a line that is neither skipped nor text, and its text: adds the call that it spells.
 fn read_item<'a>(
     draft: &mut Draft<'a>,
@@ -138,15 +162,19 @@ fn read_item<'a>(
     requires within { IsWithin found }
     requires calls { length draft.old.lines.items < most_bytes }
     requires limit { length draft.old.labels ≤ most_labels }
+    requires rows { draft.old.rows ≤ most_rows }
     ensures ok { IfOk result (λ place. IsItemRead draft.old draft.new found.entry place) }
     ensures err { IfErr result (λ e. HasFault (item_fault (known_of draft.old) (item_found found.entry)) e) }
 {
+    if found.number > MOST_LINES {
+        return Err(ScriptFault::TooLarge { what: What::Lines });
+    }
     let seq = draft.lines.len() as u32 + 1;
     let spelled = match spell(alloc, seq, found) {
         Ok(spelled) => spelled,
         Err(fault) => return Err(fault),
     };
-    if let Err(fault) = add_call(draft, spelled.call) {
+    if let Err(fault) = add_rows(draft, spelled.call) {
         return Err(fault);
     }
     Ok(spelled.place)
@@ -164,13 +192,14 @@ fn is_skipped(line: Part<'_>) -> bool
 pub fn read_calls<'a>(alloc: Global, text: Part<'a>) -> Result<Draft<'a>, ScriptFault>
     requires { end_of text ≤ most_bytes }
     ensures ok { IfOk result (λ draft. IsWhole draft (lines_of text.entry)) }
-    ensures err { IfErr result (λ e. Fails e (calls_of known_first (items 1 0 (lines_of text.entry)))) }
+    ensures err { IfErr result (λ e. Fails e (script_of (lines_of text.entry))) }
 {
     let Ok(labels) = Labels::new(alloc) else {
         return Err(ScriptFault::Memory);
     };
     let mut draft = Draft {
         lines: Vec::new(alloc),
+        rows: 0,
         labels,
     };
     let mut place = Place {
@@ -194,6 +223,9 @@ pub fn read_calls<'a>(alloc: Global, text: Part<'a>) -> Result<Draft<'a>, Script
                 Err(fault) => return Err(fault),
             };
         }
+    }
+    if place.line > MOST_LINES + 1 {
+        return Err(ScriptFault::TooLarge { what: What::Lines });
     }
     Ok(draft)
 }

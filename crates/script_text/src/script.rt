@@ -1,5 +1,5 @@
 ghost use Rattle.std.specs.Prelude.{◌≡◌, ◌≤◌, length, map, IfOk};
-ghost use Rattle.script_spec.specs.Grammar.{parse, table_of, most_bytes};
+ghost use Rattle.script_spec.specs.Grammar.{parse, table_of, most_lines};
 ghost use Rattle.script_text.specs.Lines.{call_seen};
 ghost use Rattle.script_text.specs.Scripts.{Reads};
 
@@ -13,7 +13,7 @@ use std::alloc::{AllocError, Global};
 use std::marker::Model;
 
 /// The most bytes of a script.
-pub const MOST_BYTES: u32 = 65_536;
+pub const MOST_BYTES: u32 = 4_194_304;
 
 /// A script: calls in written order, as slices of the input. A contract sees their list.
 #[derive(Drop)]
@@ -46,7 +46,13 @@ impl<'a> Script<'a> {
             return Err(ScriptFault::TooLarge { what: What::Bytes });
         }
         match read_calls(alloc, Part { bytes, at: 0 }) {
-            Ok(Draft { lines, labels }) => Ok(Script { lines, labels }),
+            Ok(
+                Draft {
+                    lines,
+                    rows: _,
+                    labels,
+                },
+            ) => Ok(Script { lines, labels }),
             Err(fault) => Err(fault),
         }
     }
@@ -54,7 +60,7 @@ impl<'a> Script<'a> {
     /// The calls, in written order.
     pub fn lines(&self) -> &[Line<'a>]
         ensures calls { map call_seen result.now ≡ self.now }
-        ensures few { length result.now ≤ most_bytes }
+        ensures few { length result.now ≤ most_lines }
     {
         self.lines.as_slice()
     }

@@ -1,4 +1,4 @@
-use crate::{Cause, Script, ScriptFault};
+use crate::{Cause, Script, ScriptFault, What};
 use std::test::Fail;
 
 #[test]
@@ -44,31 +44,109 @@ fn labels_of_words_and_texts(rt: HostRuntime) -> Result<(), Fail> {
     Ok(())
 }
 
+/// Scripts, their first bad line, and why it is bad.
+const BAD_LINES: [(&[u8], u32, Cause); 16] = [
+    (b"\0", 1, Cause::Word { k: 1 }),
+    (b"init\task A B r", 1, Cause::Word { k: 1 }),
+    (b"init", 1, Cause::Verb),
+    (b"init\r\n", 1, Cause::Word { k: 1 }),
+    (b"init frob", 1, Cause::Verb),
+    (b"init exit x y", 1, Cause::NotBuilt),
+    (b"init write relabel-self x", 1, Cause::NotBuilt),
+    (b"init ask A B r x", 1, Cause::Words),
+    (b"init ask A B\tr", 1, Cause::Words),
+    (
+        b"init ask A B r\n# c\ninit ask A B z\n",
+        3,
+        Cause::Word { k: 5 },
+    ),
+    (b"init ask A B r\r\n", 1, Cause::Word { k: 5 }),
+    (b"init write load2 01\nA B r\n", 1, Cause::Word { k: 4 }),
+    (b"init write load2 4294967296\n", 1, Cause::Word { k: 4 }),
+    (b"init create /a/b", 1, Cause::NotBuilt),
+    (b"init write load2 2\nA B r", 1, Cause::Text),
+    (b"B ask A B r", 1, Cause::Task),
+];
+
 #[test]
 fn the_first_bad_line(rt: HostRuntime) -> Result<(), Fail> {
-    let rows = [
-        (b"init frob".as_slice(), 1),
-        (b"init ask A B r\n# c\ninit ask A B z\n", 3),
-        (b"B ask A B r", 1),
-        (b"init write load2 2\nA B r", 1),
-        (b"init write load-self2 1\nA B r\n", 1),
-        (b"init write load2 01\nA B r\n", 1),
-        (b"init write load2 4294967296\nA B r\n", 1),
-        (b"init write abcdefghijklmnopqrstuvwxyz0123456 0", 1),
-        (b"init create /a/b", 1),
-        (b"init ask A B\tr", 1),
-        (b"init ask A B r x", 1),
-        (b"init ask A B r\r\n", 1),
-        (b"\0", 1),
-    ];
-    for (bytes, line) in rows {
-        assert_eq!(rt;
-            Script::read(rt.alloc(), bytes).err(),
-            Some(ScriptFault::Malformed {
-                line,
-                cause: Cause::NotBuilt
-            })
-        );
+    for (bytes, line, cause) in BAD_LINES {
+        let fault = Script::read(rt.alloc(), bytes).err();
+        assert!(rt; fault == Some(ScriptFault::Malformed { line, cause }));
     }
+    let file = b"init write abcdefghijklmnopqrstuvwxyz0123456 0";
+    let long = ScriptFault::Malformed {
+        line: 1,
+        cause: Cause::Word { k: 3 },
+    };
+    assert!(rt; Script::read(rt.alloc(), file).err() == Some(long));
+    assert!(rt; Script::read(rt.alloc(), b"init write abcdefghijklmnopqrstuvwxyz012345 0").is_ok());
+    Ok(())
+}
+
+/// Adds a write of one line to `onlycap`, with so many times the label A.
+fn put_list(script: &mut Vec<u8>, labels: usize) -> Result<(), Fail> {
+    script.extend_from_slice(b"init write onlycap 1\n")?;
+    for _ in 0..labels {
+        script.extend_from_slice(b"A ")?;
+    }
+    script.extend_from_slice(b"\n")?;
+    Ok(())
+}
+
+/// A list of n labels takes n + 2 rows: the list is cleared, each label is added, and the batch.
+#[test]
+fn most_rows(rt: HostRuntime) -> Result<(), Fail> {
+    let mut script = Vec::new(rt.alloc());
+    for _ in 0..32u32 {
+        put_list(&mut script, 32_000)?;
+    }
+    put_list(&mut script, 24_510)?;
+    assert!(rt; Script::read(rt.alloc(), script.as_slice()).is_ok());
+    script.extend_from_slice(b"init write load2 1\nA B z\ninit frob")?;
+    let verb = ScriptFault::Malformed {
+        line: 69,
+        cause: Cause::Verb,
+    };
+    assert!(rt; Script::read(rt.alloc(), script.as_slice()).err() == Some(verb));
+    let mut more = Vec::new(rt.alloc());
+    for _ in 0..32u32 {
+        put_list(&mut more, 32_000)?;
+    }
+    put_list(&mut more, 24_511)?;
+    let rows = ScriptFault::TooLarge { what: What::Rows };
+    assert!(rt; Script::read(rt.alloc(), more.as_slice()).err() == Some(rows));
+    Ok(())
+}
+
+/// Adds labels of five digits from a number on, as a text of one line for `onlycap`.
+fn put_labels(script: &mut Vec<u8>, from: u32, to: u32) -> Result<(), Fail> {
+    script.extend_from_slice(b"init write onlycap 1\n")?;
+    for n in from..to {
+        for unit in [10_000, 1000, 100, 10, 1] {
+            script.push(b'0'.saturating_add((n / unit % 10) as u8))?;
+        }
+        script.push(b' ')?;
+    }
+    script.extend_from_slice(b"\n")?;
+    Ok(())
+}
+
+#[test]
+fn most_labels(rt: HostRuntime) -> Result<(), Fail> {
+    let mut script = Vec::new(rt.alloc());
+    for part in 0..6u32 {
+        put_labels(&mut script, part * 10_000, (part + 1) * 10_000)?;
+    }
+    put_labels(&mut script, 60_000, 65_530)?;
+    match Script::read(rt.alloc(), script.as_slice()) {
+        Ok(read) => assert!(rt; read.labels()?.len() == 65_535),
+        Err(_) => assert!(rt; false),
+    }
+    script.extend_from_slice(b"init ask 00000 65529 r\n")?;
+    assert!(rt; Script::read(rt.alloc(), script.as_slice()).is_ok());
+    script.extend_from_slice(b"init relabel 65530\n")?;
+    let many = ScriptFault::TooLarge { what: What::Labels };
+    assert!(rt; Script::read(rt.alloc(), script.as_slice()).err() == Some(many));
     Ok(())
 }

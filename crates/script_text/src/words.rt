@@ -4,8 +4,8 @@ ghost use Rattle.std.specs.Str.{bytes_eq};
 ghost use Rattle.smack_base.specs.Paths.{is_slash as is_slash_byte, is_name_byte};
 ghost use Rattle.text_spec.specs.Texts.{is_space};
 ghost use Rattle.rule_text.specs.Parts.{Fits, placed, words_of};
-ghost use Rattle.script_spec.specs.Words.{verb_of as verb_of_name, kinds_of as kinds_of_verb, task_kinds as kinds_of_task_verb, tree_kinds as kinds_of_tree_verb, cap_of as cap_of_name, is_root_path as is_word_root_path, self_files, is_file_name as is_word_file_name, number_of as number_of_word, is_decimal as is_decimal_word, value_from, is_digit as is_digit_byte, is_of_kind as is_word_of_kind, are_of_kinds as are_words_of_kinds};
-ghost use Rattle.script_spec.specs.Grammar.{are_words as are_words_of_call, text_count as text_count_of_words};
+ghost use Rattle.script_spec.specs.Words.{verb_of as verb_of_name, kinds_of as kinds_of_verb, task_kinds as kinds_of_task_verb, tree_kinds as kinds_of_tree_verb, cap_of as cap_of_name, is_deep as is_deep_word, is_self_file as is_word_self_file, is_file_name as is_word_file_name, number_of as number_of_word, is_decimal as is_decimal_word, value_from, is_digit as is_digit_byte, is_of_kind as is_word_of_kind};
+ghost use Rattle.script_spec.specs.Grammar.{text_count as text_count_of_words};
 
 use rule_text::{Part, Separator, split_word};
 use script_spec::{TaskVerb, TreeVerb, Verb, WordKind};
@@ -91,20 +91,13 @@ fn is_slash(b: u8) -> bool
 }
 
 /// Whether a slash stands behind the first byte.
-fn has_slash_behind_first(word: &[u8]) -> bool
-    ensures { result ≡ list_any is_slash_byte (drop 1 word.now) }
+pub fn is_deep(word: &[u8]) -> bool
+    ensures { result ≡ is_deep_word word.now }
 {
     word.iter().skip(1).any(|b| is_slash(*b))
 }
 
-/// Whether a word is the path of the root directory, or of a file in it.
-fn is_root_path(word: &[u8]) -> bool
-    ensures { result ≡ is_word_root_path word.now }
-{
-    is_path(word) && !has_slash_behind_first(word)
-}
-
-fn is_digit(b: u8) -> bool
+pub fn is_digit(b: u8) -> bool
     ensures { result ≡ is_digit_byte b }
 {
     b >= b'0' && b <= b'9'
@@ -177,22 +170,22 @@ fn are_printed(word: &[u8]) -> bool
 }
 
 /// Whether a word names a file whose text is a call on the writing task.
-fn is_self_file(word: &[u8]) -> bool
-    ensures { result ≡ list_any (bytes_eq word.now) self_files }
+pub fn is_self_file(word: &[u8]) -> bool
+    ensures { result ≡ is_word_self_file word.now }
 {
     word == b"load-self2".as_slice()
         || word == b"load-self".as_slice()
         || word == b"relabel-self".as_slice()
 }
 
-/// Whether a word is a name of a file that a script may write to.
+/// Whether a word is a name of a file.
 fn is_file_name(word: &[u8]) -> bool
     ensures { result ≡ is_word_file_name word.now }
 {
-    !word.is_empty() && word.len() <= 32 && are_printed(word) && !is_self_file(word)
+    !word.is_empty() && word.len() <= 32 && are_printed(word)
 }
 
-fn is_of_kind(kind: WordKind, word: &[u8]) -> bool
+pub fn is_of_kind(kind: WordKind, word: &[u8]) -> bool
     requires { length word.now < 2 ^ 32 }
     ensures { result ≡ is_word_of_kind kind word.now }
 {
@@ -201,7 +194,7 @@ fn is_of_kind(kind: WordKind, word: &[u8]) -> bool
         WordKind::Modes => Modes::read(word).is_ok(),
         WordKind::File => is_file_name(word),
         WordKind::Number => number_of(word).is_some(),
-        WordKind::Path => is_root_path(word),
+        WordKind::Path => is_path(word),
         WordKind::Capability => cap_of(word).is_some(),
     }
 }
@@ -219,36 +212,6 @@ pub fn spaced_words<'a>(alloc: Global, line: Part<'a>) -> Result<Vec<Part<'a>>, 
         rest = after;
     }
     Ok(words)
-}
-
-/// Whether words are as many as kinds, each of its kind.
-fn are_of_kinds(kinds: &[WordKind], words: &[Part<'_>]) -> bool
-    requires { All Fits words.now }
-    ensures { result ≡ are_words_of_kinds kinds.now (map placed words.now) }
-{
-    if kinds.len() != words.len() {
-        return false;
-    }
-    for (i, kind) in kinds.iter().enumerate() {
-        if !is_of_kind(*kind, words[i].bytes) {
-            return false;
-        }
-    }
-    true
-}
-
-/// Whether these are the words of a call: the first task, a verb, and words of its kinds.
-pub fn are_words(words: &[Part<'_>]) -> bool
-    requires { All Fits words.now }
-    ensures { result ≡ are_words_of_call (map placed words.now) }
-{
-    if words.len() < 2 || words[0].bytes != b"init".as_slice() {
-        return false;
-    }
-    match verb_of(words[1].bytes) {
-        Some(verb) => are_of_kinds(kinds_of(verb), &words[2..]),
-        None => false,
-    }
 }
 
 /// How many of the lines behind these words are their text.

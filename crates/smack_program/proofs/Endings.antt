@@ -1,6 +1,7 @@
 use Rattle.std.proofs.Common.{◌≡◌, ◌≢◌, ◌≤◌, ◌<◌, ◌⊎◌, ℕ, Bool, true, false, List, [], ◌∷◌, length, refl, sym, ap, ◌∙◌, subst, arith, inl, inr, Some, None, Ok, Err}
 use Rattle.std.specs.Prelude.{Option, Result, IsSomeAnd, nat_lt, not, ◌&&◌}
 use Rattle.std.proofs.lemmas.Bool.{cases_Bool, le-ltb}
+use Rattle.std.specs.Option.{option_map}
 use Rattle.outside.specs.Faults.{Rose}
 use Rattle.outside.specs.Source.{Takes, AtEnd}
 use Rattle.outside.specs.Sink.{AppendsFront}
@@ -8,12 +9,11 @@ use Rattle.outside.specs.Reading.{taken_count}
 use Rattle.outside.proofs.Taking.{took_all}
 use Rattle.text_spec.specs.Texts.{lines_from}
 use Rattle.script_spec.specs.declared.Cause.{Cause}
-use Rattle.script_spec.specs.declared.Cause.TheVariants.{NotBuilt}
 use Rattle.script_spec.specs.declared.What.{What}
-use Rattle.script_spec.specs.declared.What.TheVariants.{Bytes, Labels}
+use Rattle.script_spec.specs.declared.What.TheVariants.{Bytes, Lines, Text as LongText, Rows, Labels}
 use Rattle.script_spec.specs.declared.ScriptFault.{ScriptFault}
 use Rattle.script_spec.specs.declared.ScriptFault.TheVariants.{Malformed as BadLine, TooLarge as Exceeds, Memory}
-use Rattle.script_spec.specs.Grammar.{ScriptLine, Item, Known, parse, calls_of, known_first, known_call, known_after, items, item_fault, first_of, fault_if, unless_fault, put_first, are_words, has_text, most_bytes, most_labels}
+use Rattle.script_spec.specs.Grammar.{ScriptLine, Item, Known, parse, calls_of, ends_as, known_first, known_call, known_after, items, text_bytes, first_of, fault_if, unless_fault, put_first, line_cause, has_text, most_bytes, most_lines, most_text, most_rows, most_labels}
 use Rattle.script_text.specs.Scripts.{Fails}
 use Rattle.record_spec.specs.declared.RunRecord.{RunRecord}
 use Rattle.record_spec.specs.Show.{show}
@@ -28,23 +28,36 @@ put_few : (x : ScriptLine) (more : Result (List ScriptLine) ScriptFault) → put
 put_few x (Ok xs) e = cc
 put_few x (Err f) e = cc
 
-item_few : (b c : Bool) (line : ℕ) (x : ScriptLine) (more : Result (List ScriptLine) ScriptFault)
-    → unless_fault (first_of (fault_if b (BadLine line NotBuilt) ∷ fault_if c (Exceeds Labels) ∷ [])) x more ≡ Err (Exceeds Bytes)
+item_few : (lines : Bool) (cause : Option Cause) (text rows labels : Bool) (line : ℕ) (x : ScriptLine) (more : Result (List ScriptLine) ScriptFault)
+    → unless_fault
+    (first_of
+    (fault_if lines (Exceeds Lines) ∷ option_map (λ w. BadLine line w) cause ∷ fault_if text (Exceeds LongText) ∷ fault_if rows (Exceeds Rows)
+    ∷ fault_if labels (Exceeds Labels) ∷ [])) x more ≡ Err (Exceeds Bytes)
     → more ≡ Err (Exceeds Bytes)
-item_few true c line x more e = cc
-item_few false true line x more e = cc
-item_few false false line x more e = put_few x more e
+item_few true cause text rows labels line x more e = cc
+item_few false (Some w) text rows labels line x more e = cc
+item_few false None true rows labels line x more e = cc
+item_few false None false true labels line x more e = cc
+item_few false None false false true line x more e = cc
+item_few false None false false false line x more e = put_few x more e
 
-calls_few : (known : Known) (is : List Item) → calls_of known is ≡ Err (Exceeds Bytes) → ⊥
-calls_few known [] e = cc
-calls_few known (i ∷ is) e =
-    calls_few (known_after known i) is
-    (item_few (not (are_words i.words && has_text i)) (nat_lt most_labels (length (known_after known i).labels)) i.line (known_call known i)
-    (calls_of (known_after known i) is) e)
+ends_few : (lines : Bool) → ends_as (fault_if lines (Exceeds Lines)) ≡ Err (Exceeds Bytes) → ⊥
+ends_few true e = cc
+ends_few false e = cc
+
+calls_few : (lines : Bool) (known : Known) (is : List Item) → calls_of (fault_if lines (Exceeds Lines)) known is ≡ Err (Exceeds Bytes) → ⊥
+calls_few lines known [] e = ends_few lines e
+calls_few lines known (i ∷ is) e =
+    calls_few lines (known_after known i) is
+    (item_few (nat_lt most_lines i.line) (line_cause i.words (has_text i)) (nat_lt most_text (length (text_bytes i)))
+    (nat_lt most_rows (known_after known i).rows) (nat_lt most_labels (length (known_after known i).labels)) i.line (known_call known i)
+    (calls_of (fault_if lines (Exceeds Lines)) (known_after known i) is) e)
 
 -- few bytes do not exceed the limit of bytes
 few_bytes : (bytes : List ℕ) → length bytes ≤ most_bytes → parse bytes ≡ Err (Exceeds Bytes) → ⊥
-few_bytes bytes few e = calls_few known_first (items 1 0 (lines_from 0 bytes)) (rw (le-ltb most_bytes (length bytes) few) at e)
+few_bytes bytes few e =
+    calls_few (nat_lt most_lines (length (lines_from 0 bytes))) known_first (items 1 0 (lines_from 0 bytes))
+    (rw (le-ltb most_bytes (length bytes) few) at e)
 
 -- the source was read to its end, and gave these bytes
 pub record IsRead (left left' : Option (List ℕ)) (bytes : List ℕ) : Type 0 where

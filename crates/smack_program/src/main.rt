@@ -8,6 +8,7 @@
 //! outside for the source and the sink.
 #![tactic(auto)]
 
+mod calm;
 mod command;
 mod replaying;
 mod status;

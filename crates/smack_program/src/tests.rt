@@ -1,3 +1,4 @@
+use crate::calm::replay_calm;
 use crate::status::Status;
 use crate::top::smack_main;
 use outside::{CalmSink, CalmSource, MemSink, MemSource};
@@ -19,6 +20,18 @@ fn replays(
     let mut sink = CalmSink::new(rt.alloc(), 7);
     let ended = smack_main(rt.alloc(), words.as_slice(), &mut source, &mut sink);
     Ok(ended == status && sink.taken() == text)
+}
+
+#[test]
+fn a_calm_replay(rt: HostRuntime) -> Result<(), Fail> {
+    let mut source = CalmSource::new(Vec::from_slice(rt.alloc(), b"init frob")?);
+    let mut sink = CalmSink::new(rt.alloc(), 7);
+    let verb = Status::Malformed {
+        line: 1,
+        cause: Cause::Verb,
+    };
+    assert!(rt; replay_calm(rt.alloc(), &mut source, &mut sink) == verb);
+    Ok(())
 }
 
 const LOADED: &str = "init write load2 1\nA B rw\ninit ask A B r\n";
@@ -335,39 +348,91 @@ fn lines_of_53_bytes(rt: HostRuntime) -> Result<(), Fail> {
     Ok(())
 }
 
+/// Scripts, their first bad line, and why it is bad.
+const BAD_LINES: [(&str, u32, Cause); 20] = [
+    ("a-b ask A B r\n", 1, Cause::Word { k: 1 }),
+    ("abcdefghijklmnopq ask A B r\n", 1, Cause::Word { k: 1 }),
+    ("init\n", 1, Cause::Verb),
+    ("init frob\n", 1, Cause::Verb),
+    ("B frob\n", 1, Cause::Verb),
+    ("init fork B\n", 1, Cause::NotBuilt),
+    ("init shmdt\n", 1, Cause::NotBuilt),
+    ("init write load-self2\n", 1, Cause::NotBuilt),
+    ("init create /f\ninit create /d/f\n", 2, Cause::NotBuilt),
+    ("init create /f x\n", 1, Cause::Words),
+    ("init list /\n", 1, Cause::Words),
+    ("init create f\n", 1, Cause::Word { k: 3 }),
+    ("init drop mac_admin\n", 1, Cause::Word { k: 3 }),
+    ("init relabel -A\n", 1, Cause::Word { k: 3 }),
+    ("init list / 01\n", 1, Cause::Word { k: 4 }),
+    (
+        "\n# c\ninit ask A B r\ninit ask A B z",
+        4,
+        Cause::Word { k: 5 },
+    ),
+    ("init write load2 2\nA B r\n", 1, Cause::Text),
+    ("B write load2 1\n", 1, Cause::Text),
+    ("B ask A B r", 1, Cause::Task),
+    ("_1 create /f\n", 1, Cause::Task),
+];
+
 #[test]
-fn bad_lines_and_too_many_bytes(rt: HostRuntime) -> Result<(), Fail> {
-    let rows = [
-        ("init frob\n", 1),
-        ("\n# c\ninit ask A B r\ninit ask A B z", 4),
-        ("init write load-self2 1\nA B r\n", 1),
-        ("init write load2 2\nA B r\n", 1),
-        ("init create /f\ninit create /d/f\n", 2),
-        ("init create f\n", 1),
-        ("init create /f x\n", 1),
-        ("init list /\n", 1),
-        ("init list / 01\n", 1),
-        ("init drop mac_admin\n", 1),
-        ("init relabel -A\n", 1),
-    ];
-    for (script, line) in rows {
-        let status = Status::Malformed {
-            line,
-            cause: Cause::NotBuilt,
-        };
+fn bad_lines(rt: HostRuntime) -> Result<(), Fail> {
+    for (script, line, cause) in BAD_LINES {
+        let status = Status::Malformed { line, cause };
         assert!(rt; replays(&rt, script.as_bytes(), status, b"")?);
     }
-    let bytes = vec![in rt.alloc(); b'#'; 65_537]?;
-    let nothing = b"smack 1\ntask 0 init\nend 0 0 0\n";
-    assert!(rt; replays(&rt, &bytes.as_slice()[..65_536], Status::Done, nothing)?);
-    assert!(rt;
-        replays(
-            &rt,
-            bytes.as_slice(),
-            Status::TooLarge { what: What::Bytes },
-            b""
-        )?
-    );
+    Ok(())
+}
+
+/// Whether a script ends as too large in this, and writes nothing.
+fn is_too_large(rt: &(impl Abort + AllocGlobal), script: &[u8], what: What) -> Result<bool, Fail> {
+    replays(rt, script, Status::TooLarge { what }, b"")
+}
+
+const NOTHING: &[u8] = b"smack 1\ntask 0 init\nend 0 0 0\n";
+
+/// So many bytes, all the same.
+fn repeated(rt: &impl AllocGlobal, byte: u8, count: usize) -> Result<Vec<u8>, Fail> {
+    Ok(vec![in rt.alloc(); byte; count]?)
+}
+
+#[test]
+fn most_bytes_and_lines(rt: HostRuntime) -> Result<(), Fail> {
+    let comment = repeated(&rt, b'#', 4_194_304)?;
+    assert!(rt; replays(&rt, comment.as_slice(), Status::Done, NOTHING)?);
+    let longer = repeated(&rt, b'#', 4_194_305)?;
+    assert!(rt; is_too_large(&rt, longer.as_slice(), What::Bytes)?);
+    let lines = repeated(&rt, b'\n', 131_072)?;
+    assert!(rt; replays(&rt, lines.as_slice(), Status::Done, NOTHING)?);
+    let more = repeated(&rt, b'\n', 131_073)?;
+    assert!(rt; is_too_large(&rt, more.as_slice(), What::Lines)?);
+    Ok(())
+}
+
+/// A write of so many lines to a file, each of the same byte and a line feed.
+fn write_of(rt: &(impl Abort + AllocGlobal), head: &[u8], lines: usize) -> Result<Vec<u8>, Fail> {
+    let mut script = Vec::from_slice(rt.alloc(), head)?;
+    for _ in 0..lines {
+        script.extend_from_slice(b" \n")?;
+    }
+    Ok(script)
+}
+
+#[test]
+fn most_bytes_of_a_text(rt: HostRuntime) -> Result<(), Fail> {
+    let mut script = write_of(&rt, b"init write load2 32768\n", 32_768)?;
+    let published = b"smack 1\ntask 0 init\nj 1 0.1 0\nend 1 0 0\n";
+    assert!(rt; replays(&rt, script.as_slice(), Status::Done, published)?);
+    script.extend_from_slice(b"init frob\n")?;
+    let bad = Status::Malformed {
+        line: 32_770,
+        cause: Cause::Verb,
+    };
+    assert!(rt; replays(&rt, script.as_slice(), bad, b"")?);
+    let mut longer = write_of(&rt, b"init write load2 32769\n", 32_768)?;
+    longer.extend_from_slice(b"\n")?;
+    assert!(rt; is_too_large(&rt, longer.as_slice(), What::Text)?);
     Ok(())
 }
 

@@ -7,7 +7,7 @@ use Rattle.text_spec.specs.RuleTexts.{all_good, with_first}
 use Rattle.smackfs.proofs.FirstBad.{split_good}
 use Rattle.script_spec.specs.declared.Refusal.{Refusal}
 use Rattle.script_spec.specs.Writes.{NamedWrite}
-use Rattle.script_spec.specs.Files.{op_of, ops_of, ops_of_writes, with_first_op}
+use Rattle.script_spec.specs.Files.{op_of, ops_of_writes, with_first_op}
 
 -- writes that stand before those that are made
 abbrev pub put_ops : List RuleOp → Result (List RuleOp) Refusal → Result (List RuleOp) Refusal

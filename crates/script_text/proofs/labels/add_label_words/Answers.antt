@@ -1,4 +1,4 @@
-use Rattle.std.proofs.Common.{arith, sym, ap, ◌∙◌}
+use Rattle.std.proofs.Common.{arith, sym, ◌∙◌}
 use Rattle.script_spec.specs.Grammar.{most_labels}
 use Rattle.script_text.proofs.LabelWords.{label_put, label_many, word_passed}
 use Rattle.script_text.proofs.labels.add_label_words.Goals.{then-stands_for_label+in_default, else-stands_for_label}
