@@ -182,110 +182,148 @@ fn the_first_bad_line(rt: HostRuntime) -> Result<(), Fail> {
     Ok(())
 }
 
-/// Texts at an edge of what a file takes, with the only write of a good one by the labels A and B,
-/// or the fault of its line.
-const EDGES: [(&[u8], &[u8], Result<Modes, LineFault>); 27] = [
-    (b"load2", b"A\tB \t r", Ok(READ)),
-    (b"load2", b"  A B R  ", Ok(READ)),
-    (b"load2", b"A B rRr-", Ok(READ)),
-    (b"load2", b"A B -", Ok(Modes::NONE)),
-    (b"load2", b"\0 B r", Err(Subject(BadByte { at: 0 }))),
-    (b"load2", b"A\r B r", Err(Subject(BadByte { at: 1 }))),
-    (b"load2", b"A\x7f B r", Err(Subject(BadByte { at: 1 }))),
-    (b"load2", b"\xff B r", Err(Subject(BadByte { at: 0 }))),
-    (b"load2", b"A B\0 r", Err(Object(BadByte { at: 1 }))),
-    (b"load2", b"A \r r", Err(Object(BadByte { at: 0 }))),
-    (b"load2", b"A \x7f r", Err(Object(BadByte { at: 0 }))),
-    (b"load2", b"A B\xff r", Err(Object(BadByte { at: 1 }))),
-    (b"load2", b"A B r\0", Err(Allow { at: 1 })),
-    (b"load2", b"A B r\r", Err(Allow { at: 1 })),
-    (b"load2", b"A B \x7f", Err(Allow { at: 0 })),
-    (b"load2", b"A B r\xff", Err(Allow { at: 1 })),
+/// What a text at an edge comes to.
+#[derive(Clone, Copy)]
+enum Edge {
+    /// One set of the labels A and B to these modes.
+    Set(Modes),
+    /// Its first line is bad.
+    Bad(LineFault),
+    /// Its first line is good, with a label that the table lacks.
+    Unknown,
+}
+
+/// Texts of one line at the edges of what a file takes.
+const EDGES: [(&[u8], &[u8], Edge); 34] = [
+    (b"load2", b"A\tB \t r", Edge::Set(READ)),
+    (b"load2", b"  A B R  ", Edge::Set(READ)),
+    (b"load2", b"A B rRr-", Edge::Set(READ)),
+    (b"load2", b"A B -", Edge::Set(Modes::NONE)),
+    (b"load2", b"\0 B r", Edge::Bad(Subject(BadByte { at: 0 }))),
+    (b"load2", b"A\r B r", Edge::Bad(Subject(BadByte { at: 1 }))),
+    (
+        b"load2",
+        b"A\x7f B r",
+        Edge::Bad(Subject(BadByte { at: 1 })),
+    ),
+    (b"load2", b"\xff B r", Edge::Bad(Subject(BadByte { at: 0 }))),
+    (b"load2", b"A B\0 r", Edge::Bad(Object(BadByte { at: 1 }))),
+    (b"load2", b"A \r r", Edge::Bad(Object(BadByte { at: 0 }))),
+    (b"load2", b"A \x7f r", Edge::Bad(Object(BadByte { at: 0 }))),
+    (b"load2", b"A B\xff r", Edge::Bad(Object(BadByte { at: 1 }))),
+    (b"load2", b"A B r\0", Edge::Bad(Allow { at: 1 })),
+    (b"load2", b"A B r\r", Edge::Bad(Allow { at: 1 })),
+    (b"load2", b"A B \x7f", Edge::Bad(Allow { at: 0 })),
+    (b"load2", b"A B r\xff", Edge::Bad(Allow { at: 1 })),
     (
         b"load",
         b"A                       B                       R    ",
-        Ok(READ),
+        Edge::Set(READ),
     ),
     (
         b"load",
         b"   A                         B                     r ",
-        Ok(READ),
+        Edge::Set(READ),
     ),
     (
         b"load",
         b"A                       B                            ",
-        Ok(Modes::NONE),
+        Edge::Set(Modes::NONE),
     ),
     (
         b"load",
         b"\t                       B                       r    ",
-        Err(Subject(BadByte { at: 0 })),
+        Edge::Bad(Subject(BadByte { at: 0 })),
     ),
     (
         b"load",
         b"A                       B\0                      r    ",
-        Err(Object(BadByte { at: 1 })),
+        Edge::Bad(Object(BadByte { at: 1 })),
     ),
     (
         b"load",
         b"A                       B                       r\r   ",
-        Err(Allow { at: 1 }),
+        Edge::Bad(Allow { at: 1 }),
     ),
     (
         b"load",
         b"A                       B                       b    ",
-        Err(Allow { at: 0 }),
+        Edge::Bad(Allow { at: 0 }),
     ),
     (
         b"load",
         b"A                       B                       r   ",
-        Err(Width { n: 52 }),
+        Edge::Bad(Width { n: 52 }),
     ),
     (
         b"load",
         b"A                       B                       r     ",
-        Err(Width { n: 54 }),
+        Edge::Bad(Width { n: 54 }),
     ),
     (
         b"load",
         b"AAAAAAAAAAAAAAAAAAAAAAAAB                       r    ",
-        Err(Subject(TooLong)),
+        Edge::Bad(Subject(TooLong)),
     ),
     (
         b"load",
         b"                        B                       r    ",
-        Err(Subject(Empty)),
+        Edge::Bad(Subject(Empty)),
     ),
+    (
+        b"load2",
+        b"AAAAAAAAAAAAAAAAAAAAAAAAAAAAAAAAAAAAAAAAAAAAAAAAAAAAAAAAAAAAAAAAAAAAAAAAAAAAAAAAAAAAAAAAAAAAAAAAAAAAAAAAAAAAAAAAAAAAAAAAAAAAAAAAAAAAAAAAAAAAAAAAAAAAAAAAAAAAAAAAAAAAAAAAAAAAAAAAAAAAAAAAAAAAAAAAAAAAAAAAAAAAAAAAAAAAAAAAAAAAAAAAAAAAAAAAAAAAAAAAAAAAAAAAAAAAAAA B r",
+        Edge::Unknown,
+    ),
+    (
+        b"load2",
+        b"AAAAAAAAAAAAAAAAAAAAAAAAAAAAAAAAAAAAAAAAAAAAAAAAAAAAAAAAAAAAAAAAAAAAAAAAAAAAAAAAAAAAAAAAAAAAAAAAAAAAAAAAAAAAAAAAAAAAAAAAAAAAAAAAAAAAAAAAAAAAAAAAAAAAAAAAAAAAAAAAAAAAAAAAAAAAAAAAAAAAAAAAAAAAAAAAAAAAAAAAAAAAAAAAAAAAAAAAAAAAAAAAAAAAAAAAAAAAAAAAAAAAAAAAAAAAAAAA B r",
+        Edge::Bad(Subject(TooLong)),
+    ),
+    (
+        b"load2",
+        b"A AAAAAAAAAAAAAAAAAAAAAAAAAAAAAAAAAAAAAAAAAAAAAAAAAAAAAAAAAAAAAAAAAAAAAAAAAAAAAAAAAAAAAAAAAAAAAAAAAAAAAAAAAAAAAAAAAAAAAAAAAAAAAAAAAAAAAAAAAAAAAAAAAAAAAAAAAAAAAAAAAAAAAAAAAAAAAAAAAAAAAAAAAAAAAAAAAAAAAAAAAAAAAAAAAAAAAAAAAAAAAAAAAAAAAAAAAAAAAAAAAAAAAAAAAAAAAAA r",
+        Edge::Unknown,
+    ),
+    (
+        b"load2",
+        b"A AAAAAAAAAAAAAAAAAAAAAAAAAAAAAAAAAAAAAAAAAAAAAAAAAAAAAAAAAAAAAAAAAAAAAAAAAAAAAAAAAAAAAAAAAAAAAAAAAAAAAAAAAAAAAAAAAAAAAAAAAAAAAAAAAAAAAAAAAAAAAAAAAAAAAAAAAAAAAAAAAAAAAAAAAAAAAAAAAAAAAAAAAAAAAAAAAAAAAAAAAAAAAAAAAAAAAAAAAAAAAAAAAAAAAAAAAAAAAAAAAAAAAAAAAAAAAAAA r",
+        Edge::Bad(Object(TooLong)),
+    ),
+    (
+        b"load",
+        b" AAAAAAAAAAAAAAAAAAAAAAAB                       r    ",
+        Edge::Unknown,
+    ),
+    (
+        b"load",
+        b"A                       AAAAAAAAAAAAAAAAAAAAAAAAr    ",
+        Edge::Bad(Object(TooLong)),
+    ),
+    (b"load2", b"A B r\n", Edge::Set(READ)),
 ];
+
+/// Whether a text of one line comes to this.
+fn comes_to(labels: &Labels, alloc: Global, file: &[u8], text: &[u8], edge: Edge) -> bool {
+    match edge {
+        Edge::Set(m) => becomes(labels, alloc, file, text, &[set(A, B, m)]),
+        Edge::Bad(fault) => {
+            let bad = Refusal::BadLine(BadLine { line: 1, fault });
+            refuses(labels, alloc, file, text, bad)
+        }
+        Edge::Unknown => {
+            let unknown = Refusal::UnknownLabel { line: 1 };
+            refuses(labels, alloc, file, text, unknown)
+        }
+    }
+}
 
 #[test]
 fn texts_at_each_edge(rt: HostRuntime) -> Result<(), Fail> {
     let labels = labels(&rt)?;
-    for (file, text, expected) in EDGES {
-        match expected {
-            Ok(m) => assert!(rt; becomes(&labels, rt.alloc(), file, text, &[set(A, B, m)])),
-            Err(fault) => {
-                let bad = Refusal::BadLine(BadLine { line: 1, fault });
-                assert!(rt; refuses(&labels, rt.alloc(), file, text, bad));
-            }
-        }
+    for (file, text, edge) in EDGES {
+        assert!(rt; comes_to(&labels, rt.alloc(), file, text, edge));
     }
-    Ok(())
-}
-
-#[test]
-fn longest_labels_and_texts(rt: HostRuntime) -> Result<(), Fail> {
-    let labels = labels(&rt)?;
-    let mut text = [b'A'; 260];
-    text[255..].copy_from_slice(b" B r\n");
-    let unknown = Refusal::UnknownLabel { line: 1 };
-    assert!(rt; refuses(&labels, rt.alloc(), b"load2", &text, unknown));
-    text[255..].copy_from_slice(b"A B r");
-    let long = Refusal::BadLine(BadLine {
-        line: 1,
-        fault: Subject(TooLong),
-    });
-    assert!(rt; refuses(&labels, rt.alloc(), b"load2", &text, long));
     let feeds = vec![in rt.alloc(); b'\n'; 65_537]?;
     let most = &feeds.as_slice()[..65_536];
     assert!(rt; becomes(&labels, rt.alloc(), b"load2", most, &[]));
