@@ -63,6 +63,12 @@ fn writes_of_rules(rt: HostRuntime) -> Result<(), Fail> {
     let short =
         b"A                       B                       r--  \n\n B                      _                            ";
     assert!(rt; becomes(&labels, rt.alloc(), b"load", short, &sets));
+    Ok(())
+}
+
+#[test]
+fn changes_and_revokes(rt: HostRuntime) -> Result<(), Fail> {
+    let labels = labels(&rt)?;
     let changed = RuleOp::Change {
         s: A,
         o: B,
