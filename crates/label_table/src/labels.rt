@@ -113,6 +113,17 @@ impl Labels {
         self.texts.as_slice()[id.0 as usize].as_slice()
     }
 
+    /// The text of the label with this id; no bytes where no label has it.
+    pub fn name_or_empty(&self, id: LabelId) -> &[u8]
+        ensures { result.now ≡ slice_index_or self.now id.0 [] }
+    {
+        if u32::from(id.0) < self.len() {
+            self.name(id)
+        } else {
+            b""
+        }
+    }
+
     /// How many labels stand, at most 65,535.
     pub fn len(&self) -> u32
         ensures len { result ≡ length self.now }

@@ -17,13 +17,13 @@ first_of_one (Some f) = refl
 
 -- the fault of the last field counts where the others have none
 deny_last : (fs fo fa : Option LineFault) (line : ℕ) (s o a d : Placed)
-    → then_deny d (unless_fault (first_fault (fs ∷ fo ∷ fa ∷ [])) (record { line = line; subject = s; object = o; allow = a; deny = None }))
-    ≡ unless_fault (first_fault (fs ∷ fo ∷ fa ∷ deny_fault d ∷ [])) (record { line = line; subject = s; object = o; allow = a; deny = Some d })
+    → then_deny d (unless_fault line (first_fault (fs ∷ fo ∷ fa ∷ [])) (record { line = line; subject = s; object = o; allow = a; deny = None }))
+    ≡ unless_fault line (first_fault (fs ∷ fo ∷ fa ∷ deny_fault d ∷ [])) (record { line = line; subject = s; object = o; allow = a; deny = Some d })
 deny_last (Some f) fo fa line s o a d = refl
 deny_last None (Some f) fa line s o a d = refl
 deny_last None None (Some f) line s o a d = refl
 deny_last None None None line s o a d =
-    ap (λ f. unless_fault f (record { line = line; subject = s; object = o; allow = a; deny = Some d })) (sym (first_of_one (deny_fault d)))
+    ap (λ f. unless_fault line f (record { line = line; subject = s; object = o; allow = a; deny = Some d })) (sym (first_of_one (deny_fault d)))
 
 -- a line of changes from what its first three fields are as a long line
 pub change_from_long : (line : ℕ) (s o a d : Placed) (r : Result RuleWords BadLine) → r ≡ long_line line (s ∷ o ∷ a ∷ [])

@@ -19,31 +19,31 @@ use Rattle.rule_text.specs.declared.rule_line.RuleLine.{RuleLine}
 use Rattle.rule_text.specs.RuleAnswers.{seen, IsGood}
 
 -- the fields of a line, as runs of bytes, have no fault
-record AreGood (r : RuleWords) : Type 0 where
-  subject : label_fault r.subject.bytes ≡ None
-  object : label_fault r.object.bytes ≡ None
-  allow : bad_letter r.allow.bytes ≡ None
+pub record AreGood (r : RuleWords) : Type 0 where
+  pub subject : label_fault r.subject.bytes ≡ None
+  pub object : label_fault r.object.bytes ≡ None
+  pub allow : bad_letter r.allow.bytes ≡ None
 
 -- a line without a fault
-no_fault : (s o : Option LabelFault) (a : Option ℕ) (more : List (Option LineFault)) (r r' : RuleWords)
-    → unless_fault (first_fault (option_map (λ f. Subject f) s ∷ option_map (λ f. Object f) o ∷ option_map (λ at. Allow at) a ∷ more)) r ≡ Ok r'
+no_fault : (s o : Option LabelFault) (a : Option ℕ) (more : List (Option LineFault)) (n : ℕ) (r r' : RuleWords)
+    → unless_fault n (first_fault (option_map (λ f. Subject f) s ∷ option_map (λ f. Object f) o ∷ option_map (λ at. Allow at) a ∷ more)) r ≡ Ok r'
     → (s ≡ None) × (o ≡ None) × (a ≡ None)
-no_fault (Some f) o a more r r' e = cc
-no_fault None (Some f) a more r r' e = cc
-no_fault None None (Some at) more r r' e = cc
-no_fault None None None more r r' e = (refl, refl, refl)
+no_fault (Some f) o a more n r r' e = cc
+no_fault None (Some f) a more n r r' e = cc
+no_fault None None (Some at) more n r r' e = cc
+no_fault None None None more n r r' e = (refl, refl, refl)
 
-same_line : (fault : Option LineFault) (r r' : RuleWords) → unless_fault fault r ≡ Ok r' → r ≡ r'
-same_line None r r' e = cc
-same_line (Some f) r r' e = cc
+same_line : (n : ℕ) (fault : Option LineFault) (r r' : RuleWords) → unless_fault n fault r ≡ Ok r' → r ≡ r'
+same_line n None r r' e = cc
+same_line n (Some f) r r' e = cc
 
 long_good : (n : ℕ) (ws : List Placed) (r : RuleWords) → long_line n ws ≡ Ok r → AreGood r
 long_good n [] r e = cc
 long_good n (s ∷ []) r e = cc
 long_good n (s ∷ o ∷ []) r e = cc
 long_good n (s ∷ o ∷ a ∷ []) r e =
-    let none = no_fault (label_fault s.bytes) (label_fault o.bytes) (bad_letter a.bytes) [] _ r e in
-    let same = same_line _ _ r e in
+    let none = no_fault (label_fault s.bytes) (label_fault o.bytes) (bad_letter a.bytes) [] n _ r e in
+    let same = same_line n _ _ r e in
     rw (← same) (record { subject = none.0; object = none.1; allow = none.2 })
 long_good n (s ∷ o ∷ a ∷ d ∷ ws) r e = cc
 
@@ -53,8 +53,8 @@ change_good n (s ∷ []) r e = cc
 change_good n (s ∷ o ∷ []) r e = cc
 change_good n (s ∷ o ∷ a ∷ []) r e = cc
 change_good n (s ∷ o ∷ a ∷ d ∷ []) r e =
-    let none = no_fault (label_fault s.bytes) (label_fault o.bytes) (bad_letter a.bytes) (deny_fault d ∷ []) _ r e in
-    let same = same_line _ _ r e in
+    let none = no_fault (label_fault s.bytes) (label_fault o.bytes) (bad_letter a.bytes) (deny_fault d ∷ []) n _ r e in
+    let same = same_line n _ _ r e in
     rw (← same) (record { subject = none.0; object = none.1; allow = none.2 })
 change_good n (s ∷ o ∷ a ∷ d ∷ w ∷ ws) r e = cc
 
@@ -98,8 +98,8 @@ short_good n l r e =
   where
     fields : (s o a : Placed) → short_fields n s o a ≡ Ok r → AreGood r
     fields s o a e =
-        let none = no_fault (short_label_fault s.bytes) (short_label_fault o.bytes) (short_bad_letter a.bytes) [] _ r e in
-        let same = same_line _ _ r e in
+        let none = no_fault (short_label_fault s.bytes) (short_label_fault o.bytes) (short_bad_letter a.bytes) [] n _ r e in
+        let same = same_line n _ _ r e in
         rw (← same) (record {
           subject = short_label_good s.bytes none.0;
           object = short_label_good o.bytes none.1;
@@ -110,7 +110,7 @@ not_bare : (ws : List Placed) (answer : Result RuleWords BadLine) (r : RuleWords
 not_bare [] answer r e = cc
 not_bare (w ∷ ws) answer r e = cc
 
-answer_good : (form : RuleForm) (n : ℕ) (l : TextLine) (r : RuleWords) → line_answer form n l ≡ Some (Ok r) → AreGood r
+pub answer_good : (form : RuleForm) (n : ℕ) (l : TextLine) (r : RuleWords) → line_answer form n l ≡ Some (Ok r) → AreGood r
 answer_good Long n l r e = long_good n (blank_words l) r (not_bare (blank_words l) _ r e)
 answer_good Change n l r e = change_good n (blank_words l) r (not_bare (blank_words l) _ r e)
 answer_good Short n l r e =

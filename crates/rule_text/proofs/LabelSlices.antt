@@ -1,14 +1,11 @@
-use Rattle.std.proofs.Common.{◌+◌, ℕ, Option, Some, None, Result, Ok, Err, List, [], ◌∷◌, inl, inr, map, IfOk, All}
+use Rattle.std.proofs.Common.{◌+◌, ℕ, Some, List, [], ◌∷◌, inl, inr, map, IfOk, All}
 use Rattle.std.proofs.lemmas.Bool.{cases_Bool}
 use Rattle.std.proofs.lemmas.List.Elements.{All-nil, All-cons, All-head, All-tail, All-append}
-use Rattle.smack_base.specs.Labels.{label_fault}
-use Rattle.smack_base.specs.declared.label.LabelFault.{LabelFault}
-use Rattle.text_spec.specs.declared.BadLine.{BadLine}
-use Rattle.text_spec.specs.declared.LineFault.TheVariants.{Label}
 use Rattle.text_spec.specs.Texts.{Placed, TextLine, lines_from, words_from, is_blank}
-use Rattle.text_spec.specs.RuleTexts.{LineWord, line_words, all_words, blank_words, unless_label_fault, words_answers, label_answers, only_word, is_dash, before_more}
+use Rattle.text_spec.specs.RuleTexts.{LineWord, line_words, all_words, blank_words, listed_fault, list_word, words_answers, label_answers, only_word, is_dash}
 use Rattle.rule_text.specs.Slices.{LiesIn}
 use Rattle.rule_text.proofs.WordSlices.{words_in_lines}
+use Rattle.rule_text.proofs.SubjectSlices.{good_lies, before_lies}
 
 -- the word of a line lies in the text
 abbrev WordLies : List ℕ → LineWord → Type 0
@@ -32,17 +29,11 @@ line_words_lie text n (l ∷ ls) lie =
 all_words_lie : (text : List ℕ) → All (WordLies text) (all_words text)
 all_words_lie text = line_words_lie text 1 (lines_from 0 text) (words_in_lines is_blank 0 text)
 
--- the label that a word is, or its fault, and the answers behind it
-before_lies : (text : List ℕ) (f : Option LabelFault) (w : LineWord) (more : List (Result Placed BadLine)) → LiesIn 0 text w.word
-    → All (λ a. IfOk a (LiesIn 0 text)) more → All (λ a. IfOk a (LiesIn 0 text)) (before_more (Some (unless_label_fault f w)) more)
-before_lies text None w more lies rest = All-cons (λ a. IfOk a (LiesIn 0 text)) (Ok w.word) more lies rest
-before_lies text (Some f) w more lies rest =
-    All-cons (λ a. IfOk a (LiesIn 0 text)) (Err (record { line = w.line; fault = Label f })) [] tt (All-nil (λ a. IfOk a (LiesIn 0 text)))
-
 answers_lie : (text : List ℕ) (ws : List LineWord) → All (WordLies text) ws → All (λ a. IfOk a (LiesIn 0 text)) (words_answers ws)
 answers_lie text [] lie = All-nil (λ a. IfOk a (LiesIn 0 text))
 answers_lie text (w ∷ ws) lie =
-    before_lies text (label_fault w.word.bytes) w (words_answers ws) (All-head (WordLies text) w ws lie) (answers_lie text ws (All-tail (WordLies text) w ws lie))
+    before_lies text (Some (list_word w)) (words_answers ws)
+    (good_lies text w.line (listed_fault w.word) w.word (All-head (WordLies text) w ws lie)) (answers_lie text ws (All-tail (WordLies text) w ws lie))
 
 label_answers_lie : (text : List ℕ) (ws : List LineWord) → All (WordLies text) ws → All (λ a. IfOk a (LiesIn 0 text)) (label_answers ws)
 label_answers_lie text [] lie = answers_lie text [] lie

@@ -24,7 +24,7 @@ AnswerIn n l None = ⊤
 AnswerIn n l (Some a) = GoodIn n l a
 
 -- a good line stays good, or has a fault
-unless_fault_in : (n : ℕ) (l : TextLine) (f : Option LineFault) (r : RuleWords) → r.line ≡ n → FieldsLieIn l r → GoodIn n l (unless_fault f r)
+unless_fault_in : (n : ℕ) (l : TextLine) (f : Option LineFault) (r : RuleWords) → r.line ≡ n → FieldsLieIn l r → GoodIn n l (unless_fault n f r)
 unless_fault_in n l None r same lie = (same, lie)
 unless_fault_in n l (Some f) r same lie = tt
 

@@ -4,16 +4,17 @@ use Rattle.std.specs.Bool.{⊤}
 use Rattle.text_spec.specs.declared.LineFault.{LineFault}
 use Rattle.text_spec.specs.declared.BadLine.{BadLine}
 use Rattle.text_spec.specs.Texts.{Placed, TextLine, lines_from, words_from, is_blank}
-use Rattle.text_spec.specs.RuleTexts.{subject_fault, unless_subject_fault, subject_line, subject_answer, subject_answers_from, subject_answers, unless_bare, blank_words, before_more}
+use Rattle.text_spec.specs.RuleTexts.{subject_fault, unless_fault, subject_line, subject_answer, subject_answers_from, subject_answers, unless_bare, blank_words, before_more}
 use Rattle.rule_text.specs.Slices.{LiesIn}
 use Rattle.rule_text.proofs.WordSlices.{words_in_lines}
 
 -- an answer that is there and good lies in the text
-abbrev AnswerLies : List ℕ → Option (Result Placed BadLine) → Type 0
+abbrev pub AnswerLies : List ℕ → Option (Result Placed BadLine) → Type 0
 AnswerLies text None = ⊤
 AnswerLies text (Some a) = IfOk a (LiesIn 0 text)
 
-good_lies : (text : List ℕ) (n : ℕ) (f : Option LineFault) (s : Placed) → LiesIn 0 text s → IfOk (unless_subject_fault n f s) (LiesIn 0 text)
+-- a part that lies in a text, unless its line has a fault
+pub good_lies : (text : List ℕ) (n : ℕ) (f : Option LineFault) (s : Placed) → LiesIn 0 text s → IfOk (unless_fault n f s) (LiesIn 0 text)
 good_lies text n None s lies = lies
 good_lies text n (Some f) s lies = tt
 
@@ -26,7 +27,7 @@ bare_lies : (text : List ℕ) (ws : List Placed) (a : Result Placed BadLine) →
 bare_lies text [] a lies = tt
 bare_lies text (w ∷ ws) a lies = lies
 
-before_lies : (text : List ℕ) (a : Option (Result Placed BadLine)) (more : List (Result Placed BadLine)) → AnswerLies text a
+pub before_lies : (text : List ℕ) (a : Option (Result Placed BadLine)) (more : List (Result Placed BadLine)) → AnswerLies text a
     → All (λ b. IfOk b (LiesIn 0 text)) more → All (λ b. IfOk b (LiesIn 0 text)) (before_more a more)
 before_lies text None more lies rest = rest
 before_lies text (Some (Ok s)) more lies rest = All-cons (λ b. IfOk b (LiesIn 0 text)) (Ok s) more lies rest

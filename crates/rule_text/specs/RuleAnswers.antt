@@ -26,7 +26,7 @@ seen (Err b) = Err b
 -- a good line with modes to be taken away, unless they have a fault
 abbrev pub denying : Placed → RuleWords → Result RuleWords BadLine
 denying deny r =
-    unless_fault (deny_fault deny)
+    unless_fault r.line (deny_fault deny)
     (record { line = r.line; subject = r.subject; object = r.object; allow = r.allow; deny = Some deny })
 
 -- the fields of a good line have no fault

@@ -237,15 +237,25 @@ first_of [] = None
 first_of (None ∷ more) = first_of more
 first_of (Some f ∷ more) = Some f
 
+-- a call with a text that is too long, more rows than a journal has, or more labels than a script may have, behind so
+-- many rows and these labels
+abbrev pub text_fault : ScriptLine → Option ScriptFault
+text_fault l = fault_if (nat_lt most_text (length l.text.bytes)) (TooLarge LongText)
+
+abbrev pub rows_fault : ℕ → ScriptLine → Option ScriptFault
+rows_fault rows l = fault_if (nat_lt most_rows (rows + rows_of l)) (TooLarge Rows)
+
+abbrev pub labels_fault : List (List ℕ) → ScriptLine → Option ScriptFault
+labels_fault labels l = fault_if (nat_lt most_labels (length (with_names labels (labels_of l)))) (TooLarge Labels)
+
 -- what an item breaks: the limit of lines, then the grammar, then the other limits
 abbrev pub item_fault : Known → Item → Option ScriptFault
 item_fault known i =
     first_of
     (fault_if (nat_lt most_lines i.line) (TooLarge Lines)
     ∷ option_map (λ cause. Malformed i.line cause) (line_cause i.words (has_text i))
-    ∷ fault_if (nat_lt most_text (length (text_bytes i))) (TooLarge LongText)
-    ∷ fault_if (nat_lt most_rows (known_after known i).rows) (TooLarge Rows)
-    ∷ fault_if (nat_lt most_labels (length (known_after known i).labels)) (TooLarge Labels) ∷ [])
+    ∷ text_fault (known_call known i) ∷ rows_fault known.rows (known_call known i)
+    ∷ labels_fault known.labels (known_call known i) ∷ [])
 
 abbrev pub put_first : ScriptLine → Result (List ScriptLine) ScriptFault → Result (List ScriptLine) ScriptFault
 put_first x (Ok xs) = Ok (x ∷ xs)

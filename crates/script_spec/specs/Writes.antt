@@ -2,15 +2,13 @@ use Rattle.std.specs.Prelude.{ℕ, ◌+◌, ◌-◌, ◌&&◌, if◌then◌else�
 use Rattle.std.specs.List.{flat_map}
 use Rattle.std.specs.Map.{lookup}
 use Rattle.std.specs.Str.{bytes_eq}
-use Rattle.smack_base.specs.Labels.{label_fault}
 use Rattle.smack_base.specs.Modes.{modes_of, no_modes}
 use Rattle.smack_base.specs.declared.modes.Modes.{Modes}
-use Rattle.smack_base.specs.declared.label.LabelFault.{LabelFault}
 use Rattle.text_spec.specs.declared.BadLine.{BadLine}
-use Rattle.text_spec.specs.declared.LineFault.TheVariants.{Label, Number}
+use Rattle.text_spec.specs.declared.LineFault.TheVariants.{Number}
 use Rattle.text_spec.specs.declared.RuleForm.TheVariants.{Long, Short, Change}
 use Rattle.text_spec.specs.Texts.{Placed, is_feed}
-use Rattle.text_spec.specs.RuleTexts.{RuleWords, rule_answers, subject_answers, all_words, label_answers, only_word, all_good}
+use Rattle.text_spec.specs.RuleTexts.{RuleWords, unless_fault, listed_fault, rule_answers, subject_answers, all_words, label_answers, only_word, all_good}
 use Rattle.script_spec.specs.declared.RuleFile.{RuleFile}
 use Rattle.script_spec.specs.declared.RuleFile.TheVariants.{Load2, Load, ChangeRule, RevokeSubject, Onlycap, Ambient, Ptrace, Logging}
 
@@ -76,17 +74,13 @@ abbrev pub with_word : {A : Type 0} → (Placed → Result A BadLine) → Result
 with_word read (Err bad) = Err bad
 with_word read (Ok p) = read p
 
-abbrev pub label_or_fault : List ℕ → Option LabelFault → Placed → Result Placed BadLine
-label_or_fault text None p = Ok p
-label_or_fault text (Some f) p = Err (record { line = line_of text p.at; fault = Label f })
-
 abbrev pub digit_or_fault : List ℕ → Option ℕ → Placed → Result ℕ BadLine
 digit_or_fault text None p = Err (record { line = line_of text p.at; fault = Number })
 digit_or_fault text (Some n) p = Ok n
 
 -- the label that a text of one word is
 abbrev pub label_in : List ℕ → Result Placed BadLine
-label_in text = with_word (λ p. label_or_fault text (label_fault p.bytes) p) (only_word (all_words text))
+label_in text = with_word (λ p. unless_fault (line_of text p.at) (listed_fault p) p) (only_word (all_words text))
 
 -- the number up to this one that a text of one word is
 abbrev pub number_in : ℕ → List ℕ → Result ℕ BadLine

@@ -1,16 +1,15 @@
-use Rattle.std.specs.Prelude.{◌≡◌, ◌≤◌, ℕ, ◌+◌, List, ◌++◌, [], ◌∷◌, Option, Some, None, Result, Ok, Err, length, map, take, drop, nat_lt}
+use Rattle.std.specs.Prelude.{◌≡◌, ◌≤◌, ℕ, ◌+◌, List, ◌++◌, [], ◌∷◌, Option, Some, None, Result, Ok, Err, length, map, take, drop}
 use Rattle.text_spec.specs.Texts.{TextLine, whole_lines, is_space}
 use Rattle.rule_text.specs.declared.part.Part.{Part}
 use Rattle.rule_text.specs.Parts.{lines_of, words_of, end_of, Fits}
 use Rattle.script_spec.specs.declared.ScriptFault.{ScriptFault}
 use Rattle.script_spec.specs.declared.ScriptFault.TheVariants.{Malformed, TooLarge, Memory}
-use Rattle.script_spec.specs.Grammar.{ScriptLine, Item, Known, text_count, call_of, known_call, known_after, item_fault, script_of, table_of, line_cause, has_text, fault_if, first_of, rows_of, labels_of, most_bytes, most_lines, most_text, most_rows, most_labels}
+use Rattle.script_spec.specs.Grammar.{ScriptLine, Item, Known, text_count, call_of, known_call, known_after, item_fault, script_of, table_of, line_cause, has_text, first_of, text_fault, rows_fault, labels_fault, rows_of, labels_of, most_bytes, most_lines, most_text, most_rows, most_labels}
 use Rattle.script_text.specs.declared.line.Line.{Line}
 use Rattle.script_text.specs.declared.reading.Draft.{Draft}
 use Rattle.script_text.specs.declared.reading.Place.{Place}
 use Rattle.script_text.specs.declared.reading.Found.{Found}
 use Rattle.std.specs.Option.{option_map}
-use Rattle.script_spec.specs.declared.What.TheVariants.{Text as LongText, Rows, Labels}
 use Rattle.text_spec.specs.Names.{with_names}
 use Rattle.script_text.specs.HasLabels.{HasLabels}
 use Rattle.script_text.specs.Lines.{call_seen}
@@ -62,24 +61,13 @@ item_found f = record {
 abbrev pub words_fault : Item → Option ScriptFault
 words_fault i = option_map (λ cause. Malformed i.line cause) (line_cause i.words (has_text i))
 
--- what is wrong with the labels of a call, behind those of this table
-abbrev pub labels_fault : List (List ℕ) → ScriptLine → Option ScriptFault
-labels_fault labels l = fault_if (nat_lt most_labels (length (with_names labels (labels_of l)))) (TooLarge Labels)
-
 -- what is wrong with the size of a text, or with the rows of a journal, of which so many are taken
 abbrev pub size_fault : ℕ → ScriptLine → Option ScriptFault
-size_fault rows l =
-    first_of
-    (fault_if (nat_lt most_text (length l.text.bytes)) (TooLarge LongText)
-    ∷ fault_if (nat_lt most_rows (rows + rows_of l)) (TooLarge Rows) ∷ [])
+size_fault rows l = first_of (text_fault l ∷ rows_fault rows l ∷ [])
 
 -- what is wrong with a call by the limits, behind what is known
 abbrev pub limits_fault : Known → ScriptLine → Option ScriptFault
-limits_fault known l =
-    first_of
-    (fault_if (nat_lt most_text (length l.text.bytes)) (TooLarge LongText)
-    ∷ fault_if (nat_lt most_rows (known.rows + rows_of l)) (TooLarge Rows)
-    ∷ fault_if (nat_lt most_labels (length (with_names known.labels (labels_of l)))) (TooLarge Labels) ∷ [])
+limits_fault known l = first_of (text_fault l ∷ rows_fault known.rows l ∷ labels_fault known.labels l ∷ [])
 
 -- the rows of a call are counted
 pub record IsCounted (rows : ℕ) (l : ScriptLine) (sum : ℕ) : Type 0 where

@@ -4,7 +4,7 @@ ghost use Rattle.rule_text.specs.Parts.{Fits, placed};
 ghost use Rattle.script_spec.specs.Words.{is_one_of, unbuilt_task_verbs, unbuilt_tree_verbs, unbuilt_open_verbs, unbuilt_socket_verbs, unbuilt_message_verbs, unbuilt_semaphore_verbs, unbuilt_segment_verbs, is_unbuilt_verb as is_unbuilt_name, is_task_byte as is_byte_of_task, is_task_name as is_name_of_task, is_deep_path as is_deep_word_of, has_deep_path as have_deep_path, bad_word as bad_word_of};
 ghost use Rattle.script_spec.specs.Grammar.{names_self_file as name_self_file, unless_verb as unless_verb_of, words_cause as words_cause_of, line_cause as line_cause_of};
 
-use crate::words::{is_deep, is_digit, is_of_kind, is_self_file, kinds_of, verb_of};
+use crate::words::{is_deep, is_of_kind, is_self_file, kinds_of, verb_of};
 use rule_text::Part;
 use script_spec::{Cause, Verb, WordKind};
 
@@ -100,7 +100,7 @@ fn is_unbuilt_verb(name: &[u8]) -> bool
 fn is_task_byte(b: u8) -> bool
     ensures { result ≡ is_byte_of_task b }
 {
-    is_digit(b) || (b >= b'A' && b <= b'Z') || (b >= b'a' && b <= b'z') || b == b'_'
+    b.is_ascii_digit() || (b >= b'A' && b <= b'Z') || (b >= b'a' && b <= b'z') || b == b'_'
 }
 
 fn are_task_bytes(word: &[u8]) -> bool

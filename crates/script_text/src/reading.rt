@@ -5,7 +5,8 @@ ghost use Rattle.script_spec.specs.Grammar.{word_at, text_count as text_count_of
 ghost use Rattle.text_spec.specs.Names.{with_names};
 ghost use Rattle.script_text.specs.Lines.{call_seen, call_by};
 ghost use Rattle.script_text.specs.HasLabels.{HasLabels};
-ghost use Rattle.script_text.specs.Scripts.{known_of, calls_seen, HasFault, IsTextOf, IsWithin, IsSpelled, IsAdded, IsSized, IsItemRead, IsWhole, Fails, item_found, words_fault, labels_fault, limits_fault};
+ghost use Rattle.script_text.specs.Scripts.{known_of, calls_seen, HasFault, IsTextOf, IsWithin, IsSpelled, IsAdded, IsSized, IsItemRead, IsWhole, Fails, item_found, words_fault, limits_fault};
+ghost use Rattle.script_spec.specs.Grammar.{labels_fault};
 
 use crate::causes::{cause_without_text, line_cause};
 use crate::labels::add_labels;

@@ -97,16 +97,10 @@ pub fn is_deep(word: &[u8]) -> bool
     word.iter().skip(1).any(|b| is_slash(*b))
 }
 
-pub fn is_digit(b: u8) -> bool
-    ensures { result ≡ is_digit_byte b }
-{
-    b >= b'0' && b <= b'9'
-}
-
 fn are_digits(word: &[u8]) -> bool
     ensures { result ≡ list_all is_digit_byte word.now }
 {
-    word.iter().all(|b| is_digit(*b))
+    word.iter().all(|b| b.is_ascii_digit())
 }
 
 /// Whether a word is a decimal number, of any size, without a zero in front.
@@ -157,16 +151,10 @@ pub fn number_of(word: &[u8]) -> Option<u32>
     }
 }
 
-fn is_printed(b: u8) -> bool
-    ensures { result ≡ is_name_byte b }
-{
-    b >= 0x21 && b <= 0x7E
-}
-
 fn are_printed(word: &[u8]) -> bool
     ensures { result ≡ list_all is_name_byte word.now }
 {
-    word.iter().all(|b| is_printed(*b))
+    word.iter().all(|b| b.is_ascii_graphic())
 }
 
 /// Whether a word names a file whose text is a call on the writing task.
@@ -185,6 +173,7 @@ fn is_file_name(word: &[u8]) -> bool
     !word.is_empty() && word.len() <= 32 && are_printed(word)
 }
 
+/// Whether a word is of a kind.
 pub fn is_of_kind(kind: WordKind, word: &[u8]) -> bool
     requires { length word.now < 2 ^ 32 }
     ensures { result ≡ is_word_of_kind kind word.now }

@@ -7,10 +7,12 @@ use Rattle.smackfs.specs.declared.text_writes.ListWrites.{ListWrites}
 use Rattle.smackfs.specs.declared.text_writes.Reader.{Reader}
 use Rattle.smackfs.specs.declared.text_writes.Reader.TheVariants.{Sets, Changes, Revokes, Onlycap, Single}
 
+-- one answer, where it was not given yet
 abbrev pub one_left : Option (Result NamedOp BadLine) → List (Result NamedWrite BadLine)
 one_left None = []
 one_left (Some answer) = seen_op answer ∷ []
 
+-- the onlycap list is cleared first, and then each label joins it
 abbrev pub list_left : ListWrites → List (Result NamedWrite BadLine)
 list_left list =
     if list.cleared then map (on_good NamedAdd) list.labels

@@ -19,6 +19,7 @@ named (Ambient l) = NamedAmbient (placed l)
 named (Ptrace n) = NamedPtrace n
 named (Logging n) = NamedLogging n
 
+-- an answer, with its write as a text spells it
 abbrev pub seen_op : Result NamedOp BadLine → Result NamedWrite BadLine
 seen_op (Ok op) = Ok (named op)
 seen_op (Err bad) = Err bad

@@ -38,10 +38,10 @@ allow_fault p = option_map (λ at. Allow at) (bad_letter p.bytes)
 abbrev pub deny_fault : Placed → Option LineFault
 deny_fault p = option_map (λ at. Deny at) (bad_letter p.bytes)
 
--- the good line, unless it has a fault
-abbrev pub unless_fault : Option LineFault → RuleWords → Result RuleWords BadLine
-unless_fault None r = Ok r
-unless_fault (Some f) r = Err (record { line = r.line; fault = f })
+-- what a good line gives, unless the line of this number has a fault
+abbrev pub unless_fault : {A : Type 0} → ℕ → Option LineFault → A → Result A BadLine
+unless_fault line None x = Ok x
+unless_fault line (Some f) x = Err (record { line = line; fault = f })
 
 abbrev pub fields_fault : {A : Type 0} → ℕ → List Placed → Result A BadLine
 fields_fault line words = Err (record { line = line; fault = Fields (length words) })
@@ -49,14 +49,14 @@ fields_fault line words = Err (record { line = line; fault = Fields (length word
 -- a line of subject, object and access
 abbrev pub long_line : ℕ → List Placed → Result RuleWords BadLine
 long_line line (s ∷ o ∷ a ∷ []) =
-    unless_fault (first_fault (subject_fault s ∷ object_fault o ∷ allow_fault a ∷ []))
+    unless_fault line (first_fault (subject_fault s ∷ object_fault o ∷ allow_fault a ∷ []))
     (record { line = line; subject = s; object = o; allow = a; deny = None })
 long_line line words = fields_fault line words
 
 -- a line of subject, object, allow and deny
 abbrev pub change_line : ℕ → List Placed → Result RuleWords BadLine
 change_line line (s ∷ o ∷ a ∷ d ∷ []) =
-    unless_fault (first_fault (subject_fault s ∷ object_fault o ∷ allow_fault a ∷ deny_fault d ∷ []))
+    unless_fault line (first_fault (subject_fault s ∷ object_fault o ∷ allow_fault a ∷ deny_fault d ∷ []))
     (record { line = line; subject = s; object = o; allow = a; deny = Some d })
 change_line line words = fields_fault line words
 
@@ -87,7 +87,7 @@ short_bad_letter text = position (λ b. not (is_letter b) || is_either_case lett
 
 abbrev pub short_fields : ℕ → Placed → Placed → Placed → Result RuleWords BadLine
 short_fields line s o a =
-    unless_fault
+    unless_fault line
     (first_fault
     (option_map (λ f. Subject f) (short_label_fault s.bytes) ∷ option_map (λ f. Object f) (short_label_fault o.bytes)
     ∷ option_map (λ at. Allow at) (short_bad_letter a.bytes) ∷ []))
@@ -128,13 +128,9 @@ line_answers form line (l ∷ ls) = before_more (line_answer form line l) (line_
 abbrev pub rule_answers : RuleForm → List ℕ → List (Result RuleWords BadLine)
 rule_answers form text = line_answers form 1 (lines_from 0 text)
 
-abbrev pub unless_subject_fault : ℕ → Option LineFault → Placed → Result Placed BadLine
-unless_subject_fault line None s = Ok s
-unless_subject_fault line (Some f) s = Err (record { line = line; fault = f })
-
 -- a line of one subject
 abbrev pub subject_line : ℕ → List Placed → Result Placed BadLine
-subject_line line (s ∷ []) = unless_subject_fault line (subject_fault s) s
+subject_line line (s ∷ []) = unless_fault line (subject_fault s) s
 subject_line line words = fields_fault line words
 
 abbrev pub subject_answer : ℕ → TextLine → Option (Result Placed BadLine)
@@ -172,13 +168,12 @@ line_words line (l ∷ ls) = map (λ w. record { line = line; word = w }) (blank
 abbrev pub all_words : List ℕ → List LineWord
 all_words text = line_words 1 (lines_from 0 text)
 
-abbrev pub unless_label_fault : Option LabelFault → LineWord → Result Placed BadLine
-unless_label_fault None w = Ok w.word
-unless_label_fault (Some f) w = Err (record { line = w.line; fault = Label f })
+abbrev pub listed_fault : Placed → Option LineFault
+listed_fault p = option_map (λ f. Label f) (label_fault p.bytes)
 
 -- a label of a list, or its fault
 abbrev pub list_word : LineWord → Result Placed BadLine
-list_word w = unless_label_fault (label_fault w.word.bytes) w
+list_word w = unless_fault w.line (listed_fault w.word) w.word
 
 abbrev pub is_dash : List ℕ → Bool
 is_dash (b ∷ []) = b == 45
