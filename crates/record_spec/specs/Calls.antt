@@ -23,6 +23,7 @@ abbrev pub task_call : List (List ℕ) → ScriptLine → TaskVerb → Option Ta
 task_call table l RelabelVerb = option_map (λ label. Relabel label) (id_of table l.one.bytes)
 task_call table l Drop = option_map (λ cap. DropCap cap) (cap_of l.one.bytes)
 
+-- the listing of a directory from a name on, where both words are good
 abbrev pub listing : Option (List (List ℕ)) → Option ℕ → Option TreeCall
 listing (Some path) (Some at) = Some (ListDir path at)
 listing (Some path) None = None

@@ -1,8 +1,7 @@
-use Rattle.std.specs.Prelude.{ℕ, Bool, ◌||◌, ◌==◌, if◌then◌else◌, List, [], ◌∷◌, ◌++◌, length, map, codes, decimal}
+use Rattle.std.specs.Prelude.{ℕ, List, [], ◌∷◌, ◌++◌, length, map, codes, decimal}
 use Rattle.std.specs.List.{flat_map}
 use Rattle.smack_base.specs.declared.cap.Cap.{Cap}
 use Rattle.smack_base.specs.declared.cap.Cap.TheVariants.{MacAdmin, MacOverride, SysPtrace}
-use Rattle.smack_base.specs.Modes.{letters_of}
 use Rattle.rules_spec.specs.declared.Verdict.{Verdict}
 use Rattle.world_spec.specs.declared.TaskCall.{TaskCall}
 use Rattle.world_spec.specs.declared.TaskCall.TheVariants.{Relabel, DropCap}
@@ -15,13 +14,15 @@ use Rattle.world_spec.specs.declared.Why.TheVariants.{Exists, IsRoot, NotDirecto
 use Rattle.world_spec.specs.declared.Reply.{Reply}
 use Rattle.world_spec.specs.declared.Reply.TheVariants.{Ok as Done, Names, Denied, Refused}
 use Rattle.world_spec.specs.declared.Entry.{Entry}
-use Rattle.record_spec.specs.Words.{word, number, name_at, label, feed, call_number, version_word, triple, decision}
+use Rattle.record_spec.specs.Words.{line, name_at, call_number, version_word, triple, decision}
+use Rattle.record_spec.specs.Audits.{audit_lines}
 
 -- a path: each of its names behind a slash, and the root as one slash
 abbrev pub path_text : List (List ℕ) → List ℕ
 path_text [] = codes "/"
 path_text (n ∷ ns) = flat_map (λ name. codes "/" ++ name) (n ∷ ns)
 
+-- the name of a capability
 abbrev pub cap_text : Cap → List ℕ
 cap_text MacAdmin = codes "mac-admin"
 cap_text MacOverride = codes "mac-override"
@@ -42,56 +43,30 @@ call_verb (Task call) = task_verb call
 call_verb (Tree call) = tree_verb call
 
 -- the words of a call behind its verb
-abbrev pub task_words : List (List ℕ) → TaskCall → List ℕ
-task_words labels (Relabel l) = label labels l
-task_words labels (DropCap cap) = word (cap_text cap)
+abbrev pub task_words : List (List ℕ) → TaskCall → List (List ℕ)
+task_words labels (Relabel l) = name_at labels l ∷ []
+task_words labels (DropCap cap) = cap_text cap ∷ []
 
-abbrev pub tree_words : TreeCall → List ℕ
-tree_words (Create path) = word (path_text path)
-tree_words (Unlink path) = word (path_text path)
-tree_words (ListDir path at) = word (path_text path) ++ number at
+abbrev pub tree_words : TreeCall → List (List ℕ)
+tree_words (Create path) = path_text path ∷ []
+tree_words (Unlink path) = path_text path ∷ []
+tree_words (ListDir path at) = path_text path ∷ decimal at ∷ []
 
-abbrev pub call_words : List (List ℕ) → Call → List ℕ
+abbrev pub call_words : List (List ℕ) → Call → List (List ℕ)
 call_words labels (Task call) = task_words labels call
 call_words labels (Tree call) = tree_words call
 
 -- the call, its place among all calls, and the version that it was judged in
 abbrev pub entry_head : List (List ℕ) → ℕ → Entry → List ℕ
 entry_head labels place e =
-    codes "h" ++ number place ++ call_number e.task e.seq ++ version_word e.version ++ word (call_verb e.call)
-    ++ call_words labels e.call ++ feed
+    line (codes "h")
+    (decimal place ∷ call_number e.task e.seq ∷ version_word e.version ∷ call_verb e.call ∷ call_words labels e.call)
 
 -- a verdict that was asked
 abbrev pub check_line : List (List ℕ) → Verdict → List ℕ
-check_line labels v = codes "c" ++ triple labels v.subject v.object v.modes ++ decision v ++ feed
+check_line labels v = line (codes "c") (triple labels v.subject v.object v.modes ++ decision v)
 
-abbrev pub action_text : Bool → List ℕ
-action_text allowed = if allowed then codes "granted" else codes "denied"
-
--- a key and its value, as the system's log has them
-abbrev pub pair : List ℕ → List ℕ → List ℕ
-pair key value = codes " " ++ key ++ codes "=" ++ value
-
-abbrev pub checked_pairs : List (List ℕ) → Verdict → List ℕ
-checked_pairs labels v =
-    pair (codes "subject") (name_at labels v.subject) ++ pair (codes "object") (name_at labels v.object)
-    ++ pair (codes "requested") (letters_of v.modes) ++ pair (codes "case") (decimal v.case)
-
--- what the system's log says of a check
-abbrev pub audit_line : List (List ℕ) → List ℕ → Verdict → List ℕ
-audit_line labels verb v =
-    codes "a" ++ pair (codes "action") (action_text v.allowed) ++ pair (codes "fn") verb ++ checked_pairs labels v ++ feed
-
--- whether a check is logged in a logging mode: the denied ones in 1 and 3, the granted ones in 2 and 3
-abbrev pub is_logged : ℕ → Verdict → Bool
-is_logged mode v = if v.allowed then (mode == 2) || (mode == 3) else (mode == 1) || (mode == 3)
-
-abbrev pub audit_lines_of : List (List ℕ) → ℕ → List ℕ → Verdict → List (List ℕ)
-audit_lines_of labels mode verb v = if is_logged mode v then audit_line labels verb v ∷ [] else []
-
-abbrev pub audit_lines : List (List ℕ) → ℕ → List ℕ → List Verdict → List (List ℕ)
-audit_lines labels mode verb checks = flat_map (audit_lines_of labels mode verb) checks
-
+-- why a call was refused
 abbrev pub why_text : Why → List ℕ
 why_text Exists = codes "exists"
 why_text IsRoot = codes "is-root"
@@ -100,14 +75,15 @@ why_text NotPrivileged = codes "not-privileged"
 why_text NoSuchName = codes "no-such-name"
 why_text (TreeFull limit) = codes "tree-full"
 
-abbrev pub reply_words : Reply → List ℕ
-reply_words Done = codes " ok"
-reply_words (Names count names) = codes " names" ++ number count ++ number (length names) ++ flat_map word names
-reply_words (Denied case) = codes " denied" ++ number case
-reply_words (Refused why) = word (why_text why)
+-- the answer to a call
+abbrev pub reply_words : Reply → List (List ℕ)
+reply_words Done = codes "ok" ∷ []
+reply_words (Names count names) = codes "names" ∷ decimal count ∷ decimal (length names) ∷ names
+reply_words (Denied case) = codes "denied" ∷ decimal case ∷ []
+reply_words (Refused why) = why_text why ∷ []
 
 abbrev pub reply_line : Reply → List ℕ
-reply_line reply = codes "=" ++ reply_words reply ++ feed
+reply_line reply = line (codes "=") (reply_words reply)
 
 -- a call, its checks, what is logged of them in a logging mode, and its reply
 abbrev pub entry_lines : List (List ℕ) → ℕ → ℕ → Entry → List (List ℕ)

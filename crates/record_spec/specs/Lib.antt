@@ -1,4 +1,5 @@
 pub mod Words
+pub mod Audits
 pub mod Entries
 pub mod Refusals
 pub mod Show

@@ -1,55 +1,57 @@
-use Rattle.std.specs.Prelude.{ℕ, ◌+◌, List, [], ◌∷◌, ◌++◌, length, map, take, codes, slice_index_or}
+use Rattle.std.specs.Prelude.{ℕ, ◌+◌, List, [], ◌∷◌, ◌++◌, length, map, take, codes, decimal, slice_index_or}
 use Rattle.std.specs.List.{flat_map}
 use Rattle.smack_base.specs.declared.rule_op.RuleOp.{RuleOp}
 use Rattle.smack_base.specs.declared.rule_op.RuleOp.TheVariants.{Set, Change, Revoke, OnlyClear, OnlyAdd, Ambient, Ptrace, Logging}
+use Rattle.smack_base.specs.Modes.{letters_of}
 use Rattle.rules_spec.specs.declared.Batch.{Batch}
-use Rattle.rules_spec.specs.declared.Verdict.{Verdict}
 use Rattle.rules_spec.specs.Versions.{logging}
 use Rattle.record_spec.specs.declared.AskedLine.{AskedLine}
 use Rattle.record_spec.specs.declared.AskedWhat.{AskedWhat}
 use Rattle.record_spec.specs.declared.AskedWhat.TheVariants.{Ask, Refused}
 use Rattle.record_spec.specs.declared.RunRecord.{RunRecord}
-use Rattle.record_spec.specs.Words.{word, number, label, modes, feed, call_number, version_word, triple, decision}
+use Rattle.record_spec.specs.Words.{line, name_at, call_number, version_word, triple, decision}
 use Rattle.record_spec.specs.Entries.{entry_lines}
 use Rattle.record_spec.specs.Refusals.{refusal_words}
 
 -- a rule write: its name and its words
-abbrev pub op_words : List (List ℕ) → RuleOp → List ℕ
-op_words labels (Set s o m) = codes " set" ++ triple labels s o m
-op_words labels (Change s o allow deny) = codes " change" ++ triple labels s o allow ++ modes deny
-op_words labels (Revoke s) = codes " revoke" ++ label labels s
-op_words labels OnlyClear = codes " only-clear"
-op_words labels (OnlyAdd l) = codes " only-add" ++ label labels l
-op_words labels (Ambient l) = codes " ambient" ++ label labels l
-op_words labels (Ptrace n) = codes " ptrace" ++ number n
-op_words labels (Logging n) = codes " logging" ++ number n
+abbrev pub op_words : List (List ℕ) → RuleOp → List (List ℕ)
+op_words labels (Set s o m) = codes "set" ∷ triple labels s o m
+op_words labels (Change s o allow deny) = codes "change" ∷ triple labels s o allow ++ letters_of deny ∷ []
+op_words labels (Revoke s) = codes "revoke" ∷ name_at labels s ∷ []
+op_words labels OnlyClear = codes "only-clear" ∷ []
+op_words labels (OnlyAdd l) = codes "only-add" ∷ name_at labels l ∷ []
+op_words labels (Ambient l) = codes "ambient" ∷ name_at labels l ∷ []
+op_words labels (Ptrace n) = codes "ptrace" ∷ decimal n ∷ []
+op_words labels (Logging n) = codes "logging" ∷ decimal n ∷ []
 
 abbrev pub op_line : List (List ℕ) → RuleOp → List ℕ
-op_line labels op = codes "o" ++ op_words labels op ++ feed
+op_line labels op = line (codes "o") (op_words labels op)
 
+-- the version that a batch makes, the call that published it, and how many writes it has
 abbrev pub batch_head : ℕ → Batch → List ℕ
-batch_head version b =
-    codes "j" ++ number version ++ call_number b.task b.seq ++ number (length b.ops) ++ feed
+batch_head version b = line (codes "j") (decimal version ∷ call_number b.task b.seq ∷ decimal (length b.ops) ∷ [])
 
 -- a batch that makes this version
 abbrev pub batch_lines : List (List ℕ) → ℕ → Batch → List (List ℕ)
 batch_lines labels version b = batch_head version b ∷ map (op_line labels) b.ops
 
-abbrev pub asked_head : AskedLine → List ℕ
-asked_head a = codes "q" ++ call_number a.task a.seq ++ version_word a.version
+-- the call that asked, and the version that it was answered in
+abbrev pub asked_head : AskedLine → List (List ℕ)
+asked_head a = call_number a.task a.seq ∷ version_word a.version ∷ []
 
-abbrev pub answer_line : Verdict → List ℕ
-answer_line v = codes "=" ++ decision v ++ feed
+-- what was asked
+abbrev pub what_words : List (List ℕ) → AskedWhat → List (List ℕ)
+what_words labels (Ask v) = codes "ask" ∷ triple labels v.subject v.object v.modes
+what_words labels (Refused file fault) = codes "write" ∷ file ∷ []
 
-abbrev pub what_lines : List (List ℕ) → List ℕ → AskedWhat → List (List ℕ)
-what_lines labels head (Ask v) =
-    (head ++ codes " ask" ++ triple labels v.subject v.object v.modes ++ feed) ∷ answer_line v ∷ []
-what_lines labels head (Refused file fault) =
-    (head ++ codes " write" ++ word file ++ feed) ∷ (codes "=" ++ refusal_words fault ++ feed) ∷ []
+-- what was answered
+abbrev pub answer_words : AskedWhat → List (List ℕ)
+answer_words (Ask v) = decision v
+answer_words (Refused file fault) = refusal_words fault
 
 -- an asked or refused line and its answer
 abbrev pub asked_lines : List (List ℕ) → AskedLine → List (List ℕ)
-asked_lines labels a = what_lines labels (asked_head a) a.what
+asked_lines labels a = line (codes "q") (asked_head a ++ what_words labels a.what) ∷ line (codes "=") (answer_words a.what) ∷ []
 
 -- the lines of some items, each by its place, of which the first has this one
 abbrev pub lines_in_turn : {X : Type 0} → (ℕ → X → List (List ℕ)) → ℕ → List X → List (List ℕ)
@@ -71,14 +73,15 @@ abbrev pub question_lines : RunRecord → List (List ℕ)
 question_lines r = lines_in_turn (λ place a. asked_lines r.labels a) 1 r.asked
 
 abbrev pub first_line : List ℕ
-first_line = codes "smack 1\n"
+first_line = line (codes "smack") (codes "1" ∷ [])
 
 abbrev pub task_line : ℕ → List ℕ → List ℕ
-task_line task name = codes "task" ++ number task ++ word name ++ feed
+task_line task name = line (codes "task") (decimal task ∷ name ∷ [])
 
 -- the numbers of batches, of object calls and of asked and refused lines
 abbrev pub end_line : RunRecord → List ℕ
-end_line r = codes "end" ++ number (length r.journal) ++ number (length r.history) ++ number (length r.asked) ++ feed
+end_line r =
+    line (codes "end") (decimal (length r.journal) ∷ decimal (length r.history) ∷ decimal (length r.asked) ∷ [])
 
 -- the format, and the tasks
 abbrev pub head_lines : RunRecord → List (List ℕ)

@@ -2,9 +2,9 @@
 //! leaves. Plain data; the definitions stand in `specs/`.
 //!
 //! `Show` is the text of a record, line by line, `Entries` that of an object call with its checks,
-//! its audit lines and its reply, and `Refusals` that of a refused write. `Calls` says which object call a line of a script makes.
-//! `Replays` takes the lines of a script in written order, each judged at the newest version, and
-//! says which record that makes.
+//! its audit lines (`Audits`) and its reply, and `Refusals` that of a refused write. `Calls` says
+//! which object call a line of a script makes. `Replays` takes the lines of a script in written
+//! order, each judged at the newest version, and says which record that makes.
 #![tactic(auto)]
 
 use label_table::Labels;

@@ -4,7 +4,7 @@ use Rattle.outside.specs.Sink.{Appends, AppendsFront}
 use Rattle.record_spec.specs.declared.RunRecord.{RunRecord}
 use Rattle.record_spec.specs.Show.{joined, head_lines, journal_lines, history_lines, question_lines, end_line, show}
 use Rattle.run_report.proofs.Wrote.{Wrote, wrote_nothing, wrote_more, wrote_front, wrote_all}
-use Rattle.run_report.proofs.Rests.{joined-append}
+use Rattle.record_spec.proofs.Joined.{joined-append}
 
 abbrev head_text : RunRecord → List ℕ
 head_text r = joined (head_lines r)

@@ -1,9 +1,9 @@
 ghost use Rattle.std.specs.Prelude.{◌≡◌, ◌++◌, codes, OnOk};
 ghost use Rattle.std.specs.List.{flat_map};
-ghost use Rattle.record_spec.specs.Words.{word};
+ghost use Rattle.record_spec.specs.Words.{word, words};
 ghost use Rattle.record_spec.specs.Entries.{path_text, cap_text as text_of_cap, task_verb as verb_of_task_call, tree_verb as verb_of_tree_call, call_verb as verb_of_call, task_words, tree_words, call_words, why_text as text_of_why, reply_words};
 
-use crate::words::{put_label, put_number, put_word};
+use crate::words::{put_label, put_number, put_numbered, put_word};
 use label_table::Labels;
 use smack_base::{Bytes, Cap, Path};
 use std::alloc::AllocError;
@@ -22,7 +22,7 @@ fn put_slashed(out: &mut Vec<u8>, names: &[Bytes]) -> Result<(), AllocError>
 
 /// Names, each a word.
 fn put_names(out: &mut Vec<u8>, names: &[Bytes]) -> Result<(), AllocError>
-    ensures { OnOk result (out.new.items ≡ out.old.items ++ flat_map word names.now) }
+    ensures { OnOk result (out.new.items ≡ out.old.items ++ words names.now) }
 {
     for name in names {
         put_word(out, name.items())?;
@@ -81,7 +81,7 @@ pub fn call_verb(call: &Call) -> &'static [u8]
 }
 
 fn put_task_words(out: &mut Vec<u8>, labels: &Labels, call: &TaskCall) -> Result<(), AllocError>
-    ensures { OnOk result (out.new.items ≡ out.old.items ++ task_words labels.now call.now) }
+    ensures { OnOk result (out.new.items ≡ out.old.items ++ words (task_words labels.now call.now)) }
 {
     match call {
         TaskCall::Relabel { l } => put_label(out, labels, *l),
@@ -90,7 +90,7 @@ fn put_task_words(out: &mut Vec<u8>, labels: &Labels, call: &TaskCall) -> Result
 }
 
 fn put_tree_words(out: &mut Vec<u8>, call: &TreeCall) -> Result<(), AllocError>
-    ensures { OnOk result (out.new.items ≡ out.old.items ++ tree_words call.now) }
+    ensures { OnOk result (out.new.items ≡ out.old.items ++ words (tree_words call.now)) }
 {
     match call {
         TreeCall::Create { path } => put_path(out, path),
@@ -104,7 +104,7 @@ fn put_tree_words(out: &mut Vec<u8>, call: &TreeCall) -> Result<(), AllocError>
 
 /// The words of a call behind its verb.
 pub fn put_call_words(out: &mut Vec<u8>, labels: &Labels, call: &Call) -> Result<(), AllocError>
-    ensures { OnOk result (out.new.items ≡ out.old.items ++ call_words labels.now call.now) }
+    ensures { OnOk result (out.new.items ≡ out.old.items ++ words (call_words labels.now call.now)) }
 {
     match call {
         Call::Task(call) => put_task_words(out, labels, call),
@@ -127,20 +127,17 @@ fn why_text(why: Why) -> &'static [u8]
 
 /// The words of a reply.
 pub fn put_reply(out: &mut Vec<u8>, reply: &Reply) -> Result<(), AllocError>
-    ensures { OnOk result (out.new.items ≡ out.old.items ++ reply_words reply.now) }
+    ensures { OnOk result (out.new.items ≡ out.old.items ++ words (reply_words reply.now)) }
 {
     match reply {
-        Reply::Ok => out.extend_from_slice(b" ok"),
+        Reply::Ok => put_word(out, b"ok"),
         Reply::Names { count, names } => {
-            out.extend_from_slice(b" names")?;
+            put_word(out, b"names")?;
             put_number(out, u64::from(*count))?;
             put_number(out, names.items().len() as u64)?;
             put_names(out, names.items())
         }
-        Reply::Denied(case) => {
-            out.extend_from_slice(b" denied")?;
-            put_number(out, u64::from(*case))
-        }
+        Reply::Denied(case) => put_numbered(out, b"denied", u64::from(*case)),
         Reply::Refused(why) => put_word(out, why_text(*why)),
     }
 }

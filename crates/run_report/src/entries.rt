@@ -1,11 +1,10 @@
-ghost use Rattle.std.specs.Prelude.{◌≡◌, ◌++◌, map, codes, decimal, IfOk, OnOk};
-ghost use Rattle.record_spec.specs.Entries.{entry_head, call_verb as verb_of_call, check_line as check_text, action_text as text_of_action, pair, checked_pairs, audit_line as audit_text, is_logged as is_logged_check, audit_lines, reply_line as reply_text, entry_lines as lines_of_entry};
+ghost use Rattle.std.specs.Prelude.{◌≡◌, ◌++◌, map, IfOk, OnOk};
+ghost use Rattle.record_spec.specs.Audits.{audit_line, audit_lines};
+ghost use Rattle.record_spec.specs.Entries.{entry_head, call_verb as verb_of_call, check_line as check_text, reply_line as reply_text, entry_lines as lines_of_entry};
 
 use crate::calls::{call_verb, put_call_words, put_reply};
-use crate::words::{
-    name_of, put_call_number, put_decimal, put_decision, put_number, put_triple, put_version,
-    put_word,
-};
+use crate::words::{put_call_number, put_decision, put_number, put_triple, put_version, put_word};
+use audit_line::{put_line, selected};
 use label_table::Labels;
 use rules_spec::Verdict;
 use smack_base::{Bytes, NameList};
@@ -54,59 +53,18 @@ fn push_checks(
     Ok(())
 }
 
-fn action_text(allowed: bool) -> &'static [u8]
-    ensures { result.now ≡ text_of_action allowed }
+/// What the system's log says of a check.
+fn logged_line(
+    alloc: Global,
+    labels: &Labels,
+    verb: &[u8],
+    v: &Verdict,
+) -> Result<Bytes, AllocError>
+    ensures { IfOk result (λ line. line ≡ audit_line labels.now verb.now v.now) }
 {
-    if allowed { b"granted" } else { b"denied" }
-}
-
-/// A key and its value, as the system's log has them.
-fn put_pair(out: &mut Vec<u8>, key: &[u8], value: &[u8]) -> Result<(), AllocError>
-    ensures { OnOk result (out.new.items ≡ out.old.items ++ pair key.now value.now) }
-{
-    out.extend_from_slice(b" ")?;
-    out.extend_from_slice(key)?;
-    out.extend_from_slice(b"=")?;
-    out.extend_from_slice(value)
-}
-
-fn put_case(out: &mut Vec<u8>, case: u8) -> Result<(), AllocError>
-    ensures { OnOk result (out.new.items ≡ out.old.items ++ pair (codes "case") (decimal case)) }
-{
-    put_pair(out, b"case", b"")?;
-    put_decimal(out, u64::from(case))
-}
-
-/// The pairs of a question and of the case that decided it.
-fn put_checked(out: &mut Vec<u8>, labels: &Labels, v: &Verdict) -> Result<(), AllocError>
-    ensures { OnOk result (out.new.items ≡ out.old.items ++ checked_pairs labels.now v.now) }
-{
-    put_pair(out, b"subject", name_of(labels, v.subject))?;
-    put_pair(out, b"object", name_of(labels, v.object))?;
-    put_pair(out, b"requested", v.modes.text().bytes())?;
-    put_case(out, v.case)
-}
-
-fn audit_line(alloc: Global, labels: &Labels, verb: &[u8], v: &Verdict) -> Result<Bytes, AllocError>
-    ensures { IfOk result (λ line. line ≡ audit_text labels.now verb.now v.now) }
-{
-    let mut out = Vec::from_slice(alloc, b"a")?;
-    put_pair(&mut out, b"action", action_text(v.allowed))?;
-    put_pair(&mut out, b"fn", verb)?;
-    put_checked(&mut out, labels, v)?;
-    out.extend_from_slice(b"\n")?;
+    let mut out = Vec::new(alloc);
+    put_line(&mut out, labels, verb, v)?;
     Ok(Bytes::from_vec(out))
-}
-
-/// Whether a check is logged in a logging mode.
-fn is_logged(mode: u8, v: &Verdict) -> bool
-    ensures { result ≡ is_logged_check mode v.now }
-{
-    if v.allowed {
-        mode == 2 || mode == 3
-    } else {
-        mode == 1 || mode == 3
-    }
 }
 
 fn push_audit(
@@ -120,8 +78,8 @@ fn push_audit(
 {
     let verb = call_verb(&entry.call);
     for v in entry.checks.items() {
-        if is_logged(mode, v) {
-            lines.push(audit_line(alloc, labels, verb, v)?)?;
+        if selected(mode, v.allowed) {
+            lines.push(logged_line(alloc, labels, verb, v)?)?;
         }
     }
     Ok(())

@@ -4,8 +4,8 @@
 //! `put_record` writes that text: each line with its line feed is one piece, and what the sink did
 //! not take of it is offered again. A fault ends the writing, and a front of the text was taken.
 //!
-//! Stands on outside for the sink and on label_table for the texts of labels; numbers are printed
-//! by itoa.
+//! Stands on outside for the sink, on label_table for the texts of labels, and on audit_line for the
+//! lines of the system's log; numbers are printed by itoa.
 #![tactic(auto)]
 
 mod calls;

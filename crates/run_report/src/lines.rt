@@ -1,54 +1,46 @@
 ghost use Rattle.std.specs.Prelude.{◌≡◌, ◌<◌, ◌^◌, ◌++◌, ◌∷◌, [], length, codes, slice_index_or, IfOk, OnOk};
-ghost use Rattle.record_spec.specs.Words.{word, triple, feed};
-ghost use Rattle.record_spec.specs.Refusals.{refusal_words};
-ghost use Rattle.record_spec.specs.Show.{op_words, op_line as op_text, batch_head, batch_lines as lines_of_batch, asked_head, answer_line as answer_text, asked_lines as lines_of_asked, task_line as task_text, head_lines as head_of_record, end_line as end_text};
+ghost use Rattle.record_spec.specs.Words.{words, line};
+ghost use Rattle.record_spec.specs.Show.{op_words, op_line as op_text, batch_head, batch_lines as lines_of_batch, asked_head, what_words, answer_words, asked_lines as lines_of_asked, task_line as task_text, head_lines as head_of_record, end_line as end_text};
 
 use crate::refusals::put_refusal;
 use crate::words::{
-    put_call_number, put_decision, put_label, put_modes, put_number, put_triple, put_version,
-    put_word,
+    put_call_number, put_decision, put_label, put_modes, put_number, put_numbered, put_triple,
+    put_version, put_word,
 };
 use label_table::Labels;
 use record_spec::{AskedLine, AskedWhat, RunRecord};
-use rules_spec::{Batch, Verdict};
-use script_spec::Refusal;
+use rules_spec::Batch;
 use smack_base::{Bytes, NameList, RuleOp};
 use std::alloc::{AllocError, Global};
 
 fn put_op(out: &mut Vec<u8>, labels: &Labels, op: &RuleOp) -> Result<(), AllocError>
-    ensures { OnOk result (out.new.items ≡ out.old.items ++ op_words labels.now op.now) }
+    ensures { OnOk result (out.new.items ≡ out.old.items ++ words (op_words labels.now op.now)) }
 {
     match op {
         RuleOp::Set { s, o, m } => {
-            out.extend_from_slice(b" set")?;
+            put_word(out, b"set")?;
             put_triple(out, labels, *s, *o, *m)
         }
         RuleOp::Change { s, o, allow, deny } => {
-            out.extend_from_slice(b" change")?;
+            put_word(out, b"change")?;
             put_triple(out, labels, *s, *o, *allow)?;
             put_modes(out, *deny)
         }
         RuleOp::Revoke { s } => {
-            out.extend_from_slice(b" revoke")?;
+            put_word(out, b"revoke")?;
             put_label(out, labels, *s)
         }
-        RuleOp::OnlyClear => out.extend_from_slice(b" only-clear"),
+        RuleOp::OnlyClear => put_word(out, b"only-clear"),
         RuleOp::OnlyAdd { l } => {
-            out.extend_from_slice(b" only-add")?;
+            put_word(out, b"only-add")?;
             put_label(out, labels, *l)
         }
         RuleOp::Ambient { l } => {
-            out.extend_from_slice(b" ambient")?;
+            put_word(out, b"ambient")?;
             put_label(out, labels, *l)
         }
-        RuleOp::Ptrace { n } => {
-            out.extend_from_slice(b" ptrace")?;
-            put_number(out, u64::from(*n))
-        }
-        RuleOp::Logging { n } => {
-            out.extend_from_slice(b" logging")?;
-            put_number(out, u64::from(*n))
-        }
+        RuleOp::Ptrace { n } => put_numbered(out, b"ptrace", u64::from(*n)),
+        RuleOp::Logging { n } => put_numbered(out, b"logging", u64::from(*n)),
     }
 }
 
@@ -89,49 +81,48 @@ pub fn batch_lines(
     Ok(lines)
 }
 
-fn answer_line(alloc: Global, v: &Verdict) -> Result<Bytes, AllocError>
-    ensures { IfOk result (λ line. line ≡ answer_text v.now) }
+/// What was asked: a question, or a write to a file.
+fn put_what(out: &mut Vec<u8>, labels: &Labels, what: &AskedWhat) -> Result<(), AllocError>
+    ensures { OnOk result (out.new.items ≡ out.old.items ++ words (what_words labels.now what.now)) }
 {
-    let mut out = Vec::from_slice(alloc, b"=")?;
-    put_decision(&mut out, v)?;
-    out.extend_from_slice(b"\n")?;
-    Ok(Bytes::from_vec(out))
+    match what {
+        AskedWhat::Ask(v) => {
+            put_word(out, b"ask")?;
+            put_triple(out, labels, v.subject, v.object, v.modes)
+        }
+        AskedWhat::Refused { file, fault: _ } => {
+            put_word(out, b"write")?;
+            put_word(out, file.items())
+        }
+    }
 }
 
-fn question_line(
-    alloc: Global,
-    labels: &Labels,
-    asked: &AskedLine,
-    v: &Verdict,
-) -> Result<Bytes, AllocError>
-    ensures { IfOk result (λ line. line ≡ asked_head asked.now ++ codes " ask" ++ triple labels.now v.now.subject v.now.object v.now.modes ++ feed) }
+/// What was answered.
+fn put_answer(out: &mut Vec<u8>, what: &AskedWhat) -> Result<(), AllocError>
+    ensures { OnOk result (out.new.items ≡ out.old.items ++ words (answer_words what.now)) }
+{
+    match what {
+        AskedWhat::Ask(v) => put_decision(out, v),
+        AskedWhat::Refused { file: _, fault } => put_refusal(out, *fault),
+    }
+}
+
+fn question_line(alloc: Global, labels: &Labels, asked: &AskedLine) -> Result<Bytes, AllocError>
+    ensures { IfOk result (λ text. text ≡ line (codes "q") (asked_head asked.now ++ what_words labels.now asked.now.what)) }
 {
     let mut out = Vec::from_slice(alloc, b"q")?;
     put_call_number(&mut out, asked.task, asked.seq)?;
     put_version(&mut out, asked.version)?;
-    out.extend_from_slice(b" ask")?;
-    put_triple(&mut out, labels, v.subject, v.object, v.modes)?;
+    put_what(&mut out, labels, &asked.what)?;
     out.extend_from_slice(b"\n")?;
     Ok(Bytes::from_vec(out))
 }
 
-fn write_line(alloc: Global, asked: &AskedLine, file: &[u8]) -> Result<Bytes, AllocError>
-    ensures { IfOk result (λ line. line ≡ asked_head asked.now ++ codes " write" ++ word file.now ++ feed) }
-{
-    let mut out = Vec::from_slice(alloc, b"q")?;
-    put_call_number(&mut out, asked.task, asked.seq)?;
-    put_version(&mut out, asked.version)?;
-    out.extend_from_slice(b" write")?;
-    put_word(&mut out, file)?;
-    out.extend_from_slice(b"\n")?;
-    Ok(Bytes::from_vec(out))
-}
-
-fn refusal_line(alloc: Global, fault: Refusal) -> Result<Bytes, AllocError>
-    ensures { IfOk result (λ line. line ≡ codes "=" ++ refusal_words fault ++ feed) }
+fn answer_line(alloc: Global, what: &AskedWhat) -> Result<Bytes, AllocError>
+    ensures { IfOk result (λ text. text ≡ line (codes "=") (answer_words what.now)) }
 {
     let mut out = Vec::from_slice(alloc, b"=")?;
-    put_refusal(&mut out, fault)?;
+    put_answer(&mut out, what)?;
     out.extend_from_slice(b"\n")?;
     Ok(Bytes::from_vec(out))
 }
@@ -145,16 +136,8 @@ pub fn asked_lines(
     ensures { IfOk result (λ lines. lines ≡ lines_of_asked labels.now asked.now) }
 {
     let mut lines = NameList::new(alloc);
-    match &asked.what {
-        AskedWhat::Ask(v) => {
-            lines.push(question_line(alloc, labels, asked, v)?)?;
-            lines.push(answer_line(alloc, v)?)?;
-        }
-        AskedWhat::Refused { file, fault } => {
-            lines.push(write_line(alloc, asked, file.items())?)?;
-            lines.push(refusal_line(alloc, *fault)?)?;
-        }
-    }
+    lines.push(question_line(alloc, labels, asked)?)?;
+    lines.push(answer_line(alloc, &asked.what)?)?;
     Ok(lines)
 }
 

@@ -1,5 +1,6 @@
-ghost use Rattle.std.specs.Prelude.{◌≡◌, ◌++◌, [], OnOk, decimal};
-ghost use Rattle.record_spec.specs.Words.{word, number, name_at, label, modes, call_number, version_word, triple, over_words, decision};
+ghost use Rattle.std.specs.Prelude.{◌≡◌, ◌++◌, ◌∷◌, [], OnOk, decimal};
+ghost use Rattle.smack_base.specs.Modes.{letters_of};
+ghost use Rattle.record_spec.specs.Words.{word, words, name_at, call_number, version_word, triple, over_words, decision};
 
 use itoa::Buffer;
 use label_table::Labels;
@@ -25,33 +26,30 @@ pub fn put_word(out: &mut Vec<u8>, text: &[u8]) -> Result<(), AllocError>
 
 /// A decimal number.
 pub fn put_number(out: &mut Vec<u8>, n: u64) -> Result<(), AllocError>
-    ensures { OnOk result (out.new.items ≡ out.old.items ++ number n) }
+    ensures { OnOk result (out.new.items ≡ out.old.items ++ word (decimal n)) }
 {
     out.extend_from_slice(b" ")?;
     put_decimal(out, n)
 }
 
-/// The text of a label; no bytes where the table does not have the id.
-pub fn name_of(labels: &Labels, id: LabelId) -> &[u8]
-    ensures { result.now ≡ name_at labels.now id }
+/// A word, and a decimal number behind it.
+pub fn put_numbered(out: &mut Vec<u8>, text: &[u8], n: u64) -> Result<(), AllocError>
+    ensures { OnOk result (out.new.items ≡ out.old.items ++ words (text.now ∷ decimal n ∷ [])) }
 {
-    if u32::from(id.0) < labels.len() {
-        labels.name(id)
-    } else {
-        b""
-    }
+    put_word(out, text)?;
+    put_number(out, n)
 }
 
 /// A label; a word of no bytes where the table does not have the id.
 pub fn put_label(out: &mut Vec<u8>, labels: &Labels, id: LabelId) -> Result<(), AllocError>
-    ensures { OnOk result (out.new.items ≡ out.old.items ++ label labels.now id) }
+    ensures { OnOk result (out.new.items ≡ out.old.items ++ word (name_at labels.now id)) }
 {
-    put_word(out, name_of(labels, id))
+    put_word(out, labels.name_or_empty(id))
 }
 
 /// A mode set, as its letters or a dash.
 pub fn put_modes(out: &mut Vec<u8>, m: Modes) -> Result<(), AllocError>
-    ensures { OnOk result (out.new.items ≡ out.old.items ++ modes m) }
+    ensures { OnOk result (out.new.items ≡ out.old.items ++ word (letters_of m)) }
 {
     put_word(out, m.text().bytes())
 }
@@ -64,7 +62,7 @@ pub fn put_triple(
     o: LabelId,
     m: Modes,
 ) -> Result<(), AllocError>
-    ensures { OnOk result (out.new.items ≡ out.old.items ++ triple labels.now s o m) }
+    ensures { OnOk result (out.new.items ≡ out.old.items ++ words (triple labels.now s o m)) }
 {
     put_label(out, labels, s)?;
     put_label(out, labels, o)?;
@@ -73,7 +71,7 @@ pub fn put_triple(
 
 /// A call: the number of its task, a dot, and its number.
 pub fn put_call_number(out: &mut Vec<u8>, task: u16, seq: u32) -> Result<(), AllocError>
-    ensures { OnOk result (out.new.items ≡ out.old.items ++ call_number task seq) }
+    ensures { OnOk result (out.new.items ≡ out.old.items ++ word (call_number task seq)) }
 {
     out.extend_from_slice(b" ")?;
     put_decimal(out, u64::from(task))?;
@@ -83,7 +81,7 @@ pub fn put_call_number(out: &mut Vec<u8>, task: u16, seq: u32) -> Result<(), All
 
 /// A rule version.
 pub fn put_version(out: &mut Vec<u8>, version: u32) -> Result<(), AllocError>
-    ensures { OnOk result (out.new.items ≡ out.old.items ++ version_word version) }
+    ensures { OnOk result (out.new.items ≡ out.old.items ++ word (version_word version)) }
 {
     out.extend_from_slice(b" v")?;
     put_decimal(out, u64::from(version))
@@ -91,24 +89,22 @@ pub fn put_version(out: &mut Vec<u8>, version: u32) -> Result<(), AllocError>
 
 /// The denying case that an answer went over, where there is one.
 fn put_over(out: &mut Vec<u8>, case: u8) -> Result<(), AllocError>
-    ensures { OnOk result (out.new.items ≡ out.old.items ++ over_words case) }
+    ensures { OnOk result (out.new.items ≡ out.old.items ++ words (over_words case)) }
 {
     if case == 0 {
         return Ok(());
     }
-    out.extend_from_slice(b" over")?;
-    put_number(out, u64::from(case))
+    put_numbered(out, b"over", u64::from(case))
 }
 
 /// The answer to a question, and the case that decided it.
 pub fn put_decision(out: &mut Vec<u8>, v: &Verdict) -> Result<(), AllocError>
-    ensures { OnOk result (out.new.items ≡ out.old.items ++ decision v.now) }
+    ensures { OnOk result (out.new.items ≡ out.old.items ++ words (decision v.now)) }
 {
     if v.allowed {
-        out.extend_from_slice(b" allow")?;
+        put_numbered(out, b"allow", u64::from(v.case))?;
     } else {
-        out.extend_from_slice(b" deny")?;
+        put_numbered(out, b"deny", u64::from(v.case))?;
     }
-    put_number(out, u64::from(v.case))?;
     put_over(out, v.over)
 }

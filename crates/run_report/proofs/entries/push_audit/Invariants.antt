@@ -1,5 +1,6 @@
 use Rattle.std.proofs.Common.{◌≡◌, ◌++◌, take}
-use Rattle.record_spec.specs.Entries.{audit_lines, call_verb}
+use Rattle.record_spec.specs.Audits.{audit_lines}
+use Rattle.record_spec.specs.Entries.{call_verb}
 use Rattle.run_report.proofs.entries.push_audit.Given as goal
 
 abbrev pub invariant-loop-v : goal.invariant-loop-v
