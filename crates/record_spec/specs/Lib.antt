@@ -4,4 +4,7 @@ pub mod Entries
 pub mod Refusals
 pub mod Show
 pub mod Calls
+pub mod Plain
+pub mod Fits
 pub mod Replays
+pub mod Laws

@@ -4,7 +4,8 @@
 //! `Show` is the text of a record, line by line, `Entries` that of an object call with its checks,
 //! its audit lines (`Audits`) and its reply, and `Refusals` that of a refused write. `Calls` says
 //! which object call a line of a script makes. `Replays` takes the lines of a script in written
-//! order, each judged at the newest version, and says which record that makes.
+//! order, each judged at the newest version, and says which record that makes. `Plain` and `Fits`
+//! say what stands in records that scripts leave, and `Laws` what follows for their texts.
 #![tactic(auto)]
 
 use label_table::Labels;

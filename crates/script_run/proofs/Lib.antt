@@ -1,1 +1,2 @@
 pub mod LongPaths
+pub mod PlainRecords

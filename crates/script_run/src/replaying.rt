@@ -1,6 +1,7 @@
-ghost use Rattle.std.specs.Prelude.{◌≡◌, ◌≤◌, ◌∷◌, [], length, map, codes, IfOk};
-ghost use Rattle.script_spec.specs.Grammar.{most_lines};
+ghost use Rattle.std.specs.Prelude.{◌≡◌, ◌≤◌, ℕ, List, ◌∷◌, [], Ok, length, map, codes, IfOk};
+ghost use Rattle.script_spec.specs.Grammar.{most_lines, parse};
 ghost use Rattle.script_text.specs.Lines.{call_seen};
+ghost use Rattle.record_spec.specs.Plain.{IsPlain};
 ghost use Rattle.record_spec.specs.Replays.{run_of, replayed};
 ghost use Rattle.script_run.specs.Running.{seen, IsRunning};
 
@@ -32,9 +33,8 @@ fn names(alloc: Global) -> Result<NameList, AllocError>
     Ok(names)
 }
 
-/// The record of a script that is replayed: its calls are taken in written order, each judged at
-/// the newest version.
-pub fn replay(alloc: Global, script: &Script<'_>) -> Result<RunRecord, AllocError>
+/// The record that all calls of a script leave.
+fn record_of(alloc: Global, script: &Script<'_>) -> Result<RunRecord, AllocError>
     ensures { IfOk result (λ r. r ≡ replayed script.now) }
 {
     let labels = script.labels()?;
@@ -52,4 +52,14 @@ pub fn replay(alloc: Global, script: &Script<'_>) -> Result<RunRecord, AllocErro
         history: world.into_trail(),
         asked,
     })
+}
+
+/// The record of a script that is replayed: its calls are taken in written order, each judged at
+/// the newest version. Where the script was read from bytes, the record is plain.
+#[tactic(auto, using(crate::proofs::PlainRecords::replayed_are_plain))]
+pub fn replay(alloc: Global, script: &Script<'_>) -> Result<RunRecord, AllocError>
+    ensures replayed { IfOk result (λ r. r ≡ replayed script.now) }
+    ensures plain { IfOk result (λ r. (bytes : List ℕ) → parse bytes ≡ Ok script.now → IsPlain r) }
+{
+    record_of(alloc, script)
 }

@@ -1,0 +1,14 @@
+pub mod Lists
+pub mod GoodLines
+pub mod GoodWrites
+pub mod LabelTables
+pub mod PlainWrites
+pub mod FileNames
+pub mod PlainVerdicts
+pub mod PathWords
+pub mod PlainCalls
+pub mod PlainWorlds
+pub mod Steps
+pub mod PlainSteps
+pub mod PlainRuns
+pub mod Replays

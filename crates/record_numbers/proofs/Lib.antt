@@ -1,0 +1,10 @@
+pub mod TextSizes
+pub mod BadLines
+pub mod RefusalNumbers
+pub mod VerdictNumbers
+pub mod CallNumbers
+pub mod FileNumbers
+pub mod StepNumbers
+pub mod RunNumbers
+pub mod ReplayedNumbers
+pub mod OneRecord

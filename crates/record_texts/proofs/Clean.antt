@@ -1,0 +1,39 @@
+use Rattle.std.proofs.Common.{◌≡◌, ◌≤◌, ℕ, Bool, true, nat_le, List, [], ◌∷◌, ◌++◌, arith}
+use Rattle.std.specs.List.{AllByRecursion, list_all}
+use Rattle.std.proofs.lemmas.Bool.{and_parts, and_from, leb-true, le-leb}
+use Rattle.smack_base.specs.Labels.{is_label}
+use Rattle.smack_base.specs.Paths.{is_name_byte}
+use Rattle.record_spec.proofs.PrintedBytes.{all_weaker, label_bytes}
+
+-- no byte of a text is below this one
+abbrev pub is_above : ℕ → List ℕ → Bool
+is_above low text = list_all (nat_le low) text
+
+-- a text has no space and no line feed
+abbrev pub is_clean : List ℕ → Bool
+is_clean text = is_above 33 text
+
+abbrev pub AreClean : List (List ℕ) → Type 0
+AreClean texts = AllByRecursion (λ text. is_clean text ≡ true) texts
+
+-- what has no byte below a bound has none below a lower one
+pub above_less : (low high : ℕ) (text : List ℕ) → low ≤ high → is_above high text ≡ true → is_above low text ≡ true
+above_less low high text less above =
+    all_weaker (nat_le high) (nat_le low) (λ b at. le-leb low b (omega (arith, leb-true high b at))) text above
+
+-- two texts, one behind the other
+above_behind : (low : ℕ) (front back : List ℕ) → is_above low front ≡ true → is_above low back ≡ true → is_above low (front ++ back) ≡ true
+above_behind low [] back first second = second
+above_behind low (b ∷ bs) back first second =
+    let parts = and_parts (nat_le low b) (is_above low bs) first in
+    and_from (nat_le low b) (is_above low (bs ++ back)) parts.0 (above_behind low bs back parts.1 second)
+
+pub clean_behind : (front back : List ℕ) → is_clean front ≡ true → is_clean back ≡ true → is_clean (front ++ back) ≡ true
+clean_behind front back first second = above_behind 33 front back first second
+
+-- words of bytes from ! to ~
+pub name_bytes_clean : (text : List ℕ) → list_all is_name_byte text ≡ true → is_clean text ≡ true
+name_bytes_clean text all = all_weaker is_name_byte (nat_le 33) (λ b is. (and_parts (nat_le 33 b) (nat_le b 126) is).0) text all
+
+pub label_clean : (text : List ℕ) → is_label text ≡ true → is_clean text ≡ true
+label_clean text is = name_bytes_clean text (label_bytes text is)

@@ -1,0 +1,16 @@
+pub mod Clean
+pub mod Cut
+pub mod Turns
+pub mod Decimals
+pub mod Letters
+pub mod Told
+pub mod RuleWrites
+pub mod Verdicts
+pub mod Faults
+pub mod Paths
+pub mod Calls
+pub mod Replies
+pub mod Entries
+pub mod Questions
+pub mod Batches
+pub mod Records

@@ -1,0 +1,38 @@
+use Rattle.std.proofs.Common.{◌≡◌, ◌<◌, ℕ, zero, suc, Bool, true, List, [], ◌∷◌, length, get_or, slice_index_or, sym, ap, ◌∙◌, arith}
+use Rattle.std.specs.List.{AllByRecursion}
+use Rattle.std.specs.Str.{bytes_eq}
+use Rattle.smack_base.specs.declared.ids.LabelId.{LabelId}
+use Rattle.smack_base.specs.Labels.{is_label}
+use Rattle.text_spec.specs.Names.{place_of}
+use Rattle.record_spec.specs.Words.{name_at}
+use Rattle.record_spec.specs.Plain.{IsLabelTable, HasId}
+use Rattle.record_texts.proofs.Clean.{is_clean, label_clean}
+
+-- what is read back from equal texts is equal
+pub told : {W X : Type 0} (read : W → X) (shown : X → W) (x y : X) → read (shown x) ≡ x → read (shown y) ≡ y → shown x ≡ shown y → x ≡ y
+told read shown x y read_x read_y same = sym read_x ∙ ap read same ∙ read_y
+
+-- the word at a place, from 0
+abbrev pub word_at : ℕ → List (List ℕ) → List ℕ
+word_at n ws = slice_index_or ws n []
+
+-- the first of some words is this one
+abbrev pub begins_with : List ℕ → List (List ℕ) → Bool
+begins_with text ws = bytes_eq text (word_at 0 ws)
+
+-- the label that a word is
+abbrev pub label_in : List (List ℕ) → List ℕ → LabelId
+label_in labels text = record { 0 = place_of labels text }
+
+-- a printed label is read back
+pub label_read : (labels : List (List ℕ)) → IsLabelTable labels → (l : LabelId) → HasId labels l → label_in labels (name_at labels l) ≡ l
+label_read labels table l has = λ i. record { 0 = table.once l.0 has i }
+
+-- what holds of all holds of the one at a place
+all_at : {X : Type 0} (P : X → Type 0) (xs : List X) (i : ℕ) (d : X) → AllByRecursion P xs → i < length xs → P (get_or xs i d)
+all_at P [] i d all within = absurd (omega (arith, within))
+all_at P (x ∷ xs) zero d all within = all.0
+all_at P (x ∷ xs) (suc i) d all within = all_at P xs i d all.1 (omega (arith, within))
+
+pub name_clean : (labels : List (List ℕ)) → IsLabelTable labels → (l : LabelId) → HasId labels l → is_clean (name_at labels l) ≡ true
+name_clean labels table l has = label_clean (name_at labels l) (all_at (λ label. is_label label ≡ true) labels l.0 [] table.are has)
