@@ -52,7 +52,7 @@ step_fits count fits w few version call =
     (HasFiles (count + 1))
     FitsVerdict
     FitsReply
-    (λ v fit. fit.0)
+    (λ v fit. omega (arith, fit.0))
     w
     version
     call

@@ -21,11 +21,15 @@ use Rattle.record_spec.specs.declared.RunRecord.{RunRecord}
 abbrev pub Fits : ℕ → Type 0
 Fits n = n < 2 ^ 64
 
+-- a number of one byte, as that of a case is
+abbrev pub FitsByte : ℕ → Type 0
+FitsByte n = n < 2 ^ 8
+
 abbrev pub FitsBatch : Batch → Type 0
 FitsBatch b = Fits b.task × Fits b.seq
 
 abbrev pub FitsVerdict : Verdict → Type 0
-FitsVerdict v = Fits v.case × Fits v.over
+FitsVerdict v = FitsByte v.case × FitsByte v.over
 
 abbrev pub FitsReply : Reply → Type 0
 FitsReply Done = Unit {0}

@@ -14,3 +14,4 @@ pub mod Entries
 pub mod Questions
 pub mod Batches
 pub mod Records
+pub mod Logs

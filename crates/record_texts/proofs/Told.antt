@@ -34,5 +34,9 @@ all_at P [] i d all within = absurd (omega (arith, within))
 all_at P (x ∷ xs) zero d all within = all.0
 all_at P (x ∷ xs) (suc i) d all within = all_at P xs i d all.1 (omega (arith, within))
 
+-- the text of a label of the table is a label
+pub name_is_label : (labels : List (List ℕ)) → IsLabelTable labels → (l : LabelId) → HasId labels l → is_label (name_at labels l) ≡ true
+name_is_label labels table l has = all_at (λ label. is_label label ≡ true) labels l.0 [] table.are has
+
 pub name_clean : (labels : List (List ℕ)) → IsLabelTable labels → (l : LabelId) → HasId labels l → is_clean (name_at labels l) ≡ true
-name_clean labels table l has = label_clean (name_at labels l) (all_at (λ label. is_label label ≡ true) labels l.0 [] table.are has)
+name_clean labels table l has = label_clean (name_at labels l) (name_is_label labels table l has)

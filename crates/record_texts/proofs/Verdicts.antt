@@ -1,4 +1,4 @@
-use Rattle.std.proofs.Common.{◌≡◌, ℕ, Bool, true, false, ◌==◌, if◌then◌else◌, List, [], ◌∷◌, ◌++◌, codes, decimal, refl, sym}
+use Rattle.std.proofs.Common.{◌≡◌, ℕ, Bool, true, false, ◌==◌, if◌then◌else◌, List, [], ◌∷◌, ◌++◌, codes, decimal, refl, sym, arith}
 use Rattle.std.specs.Str.{bytes_eq}
 use Rattle.std.proofs.lemmas.Bool.{eqb-true}
 use Rattle.smack_base.specs.Modes.{modes_of}
@@ -60,14 +60,17 @@ decision_clean v = (decided_clean v.allowed, (decimal_clean v.case, over_clean v
 module _ (labels : List (List ℕ)) (table : IsLabelTable labels) where
   -- a verdict is read back from its words
   pub verdict_read : (v : Verdict) → IsPlainVerdict labels v → FitsVerdict v → verdict_in labels (verdict_words labels v) ≡ v
-  verdict_read v plain fits = λ i. record {
-    allowed = allowed_read v.allowed i;
-    case = number_read v.case fits.0 i;
-    over = over_read v.over fits.1 i;
-    subject = label_read labels table v.subject plain.subject i;
-    object = label_read labels table v.object plain.object i;
-    modes = modes_read v.modes i;
-  }
+  verdict_read v plain fits =
+      let case : Fits v.case = omega (arith, fits.0) in
+      let over : Fits v.over = omega (arith, fits.1) in
+      λ i. record {
+        allowed = allowed_read v.allowed i;
+        case = number_read v.case case i;
+        over = over_read v.over over i;
+        subject = label_read labels table v.subject plain.subject i;
+        object = label_read labels table v.object plain.object i;
+        modes = modes_read v.modes i;
+      }
 
   pub triple_clean : (v : Verdict) → IsPlainVerdict labels v → AreClean (triple labels v.subject v.object v.modes)
   triple_clean v plain = (name_clean labels table v.subject plain.subject, (name_clean labels table v.object plain.object, (modes_clean v.modes, tt)))
