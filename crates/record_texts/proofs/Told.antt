@@ -1,6 +1,6 @@
-use Rattle.std.proofs.Common.{◌≡◌, ◌<◌, ℕ, zero, suc, Bool, true, List, [], ◌∷◌, length, get_or, slice_index_or, sym, ap, ◌∙◌, arith}
-use Rattle.std.specs.List.{AllByRecursion}
+use Rattle.std.proofs.Common.{◌≡◌, ℕ, Bool, true, List, [], slice_index_or, sym, ap, ◌∙◌}
 use Rattle.std.specs.Str.{bytes_eq}
+use Rattle.std.proofs.lemmas.List.Elements.{All-from_recursion}
 use Rattle.smack_base.specs.declared.ids.LabelId.{LabelId}
 use Rattle.smack_base.specs.Labels.{is_label}
 use Rattle.text_spec.specs.Names.{place_of}
@@ -28,15 +28,9 @@ label_in labels text = record { 0 = place_of labels text }
 pub label_read : (labels : List (List ℕ)) → IsLabelTable labels → (l : LabelId) → HasId labels l → label_in labels (name_at labels l) ≡ l
 label_read labels table l has = λ i. record { 0 = table.once l.0 has i }
 
--- what holds of all holds of the one at a place
-all_at : {X : Type 0} (P : X → Type 0) (xs : List X) (i : ℕ) (d : X) → AllByRecursion P xs → i < length xs → P (get_or xs i d)
-all_at P [] i d all within = absurd (omega (arith, within))
-all_at P (x ∷ xs) zero d all within = all.0
-all_at P (x ∷ xs) (suc i) d all within = all_at P xs i d all.1 (omega (arith, within))
-
 -- the text of a label of the table is a label
 pub name_is_label : (labels : List (List ℕ)) → IsLabelTable labels → (l : LabelId) → HasId labels l → is_label (name_at labels l) ≡ true
-name_is_label labels table l has = all_at (λ label. is_label label ≡ true) labels l.0 [] table.are has
+name_is_label labels table l has = All-from_recursion (λ label. is_label label ≡ true) labels table.are l.0 [] has
 
 pub name_clean : (labels : List (List ℕ)) → IsLabelTable labels → (l : LabelId) → HasId labels l → is_clean (name_at labels l) ≡ true
 name_clean labels table l has = label_clean (name_at labels l) (name_is_label labels table l has)

@@ -1,6 +1,6 @@
 //! A text tells its record: where two plain records have the same labels and the same names of
-//! tasks, and their texts are equal, the records are equal. So who reads a printed run reads all of
-//! it, and a printed run is the text of one record only.
+//! tasks, their numbers have at most 64 bits, and their texts are equal, the records are equal. So
+//! who knows the labels and the tasks reads all of such a record in its text.
 //!
 //! And each line of the system's log in a plain record is one that audit_line reads back.
 //!
@@ -9,14 +9,15 @@
 
 ghost use Rattle.record_spec.specs.Laws.{LogIsRead, TextTellsRecord};
 
-/// The law: plain records with the same labels and names are equal where their texts are.
+/// The law: plain records with the same labels and names, and with numbers of at most 64 bits, are
+/// equal where their texts are.
 #[tactic(auto, using(crate::proofs::Records::text_tells_record))]
 pub fn texts_tell_records()
     ensures { TextTellsRecord }
 {}
 
-/// The law: each line of the system's log in a plain record tells what such a line can tell, so it
-/// is read back.
+/// The law: what is told of each check in a plain record, with numbers that fit, is what a line of
+/// the system's log can tell; so audit_line reads that line back.
 #[tactic(auto, using(crate::proofs::Logs::log_is_read))]
 pub fn logs_are_read()
     ensures { LogIsRead }
