@@ -1,5 +1,5 @@
 ghost use Rattle.std.specs.Prelude.{◌≡◌, ℕ, ◌<◌, ◌≤◌, ◌↔◌, false, length, slice_index_or, map, [], IfOk, IfSome, OnOk, OnErr};
-ghost use Rattle.text_spec.specs.Names.{predefined, place_of, has_name, with_name, id_of};
+ghost use Rattle.text_spec.specs.Names.{predefined, place_of, has_name, with_name, id_of, IsLabelTable};
 
 use indexmap::IndexSet;
 use smack_base::{Duplicate, Label, LabelId};
@@ -18,7 +18,7 @@ pub enum LabelsFault {
     Memory,
 }
 
-/// The labels of a run by id, the predefined ones first.
+/// The labels of a run by id: distinct labels, the predefined ones first.
 #[derive(Drop)]
 pub struct Labels {
     texts: IndexSet<Vec<u8>>,
@@ -26,12 +26,14 @@ pub struct Labels {
 
 impl Model for Labels {
     ghost use Rattle.std.specs.Prelude.{List, ℕ, map, length, ◌≤◌};
+    ghost use Rattle.text_spec.specs.Names.{IsLabelTable};
 
     ghost Value = { List (List ℕ) };
 
     ghost view = { λ l. map (λ t. t.items) l.texts.keys };
 
-    ghost invariant = { λ l. length (map (λ t. t.items) l.texts.keys) ≤ 65535 };
+    ghost invariant = { λ l. (length (map (λ t. t.items) l.texts.keys) ≤ 65535)
+        × IsLabelTable (map (λ t. t.items) l.texts.keys) };
 }
 
 /// Puts a text last, unless it is there.
@@ -124,10 +126,11 @@ impl Labels {
         }
     }
 
-    /// How many labels stand, at most 65,535.
+    /// How many labels stand, from 5 to 65,535. What stands is a table of labels.
     pub fn len(&self) -> u32
         ensures len { result ≡ length self.now }
         ensures limit { result ≤ 65535 }
+        ensures table { IsLabelTable self.now }
     {
         self.texts.len() as u32
     }

@@ -1,9 +1,9 @@
 use Rattle.std.proofs.Common.{◌≡◌, ◌≤◌, ℕ, Bool, List, [], ◌∷◌, length, refl, sym, Some, None, Ok, Err, true, false, inl, inr, arith}
-use Rattle.std.specs.Prelude.{Option, Result, IfSome, nat_lt, nat_eq, not, ◌||◌, position}
+use Rattle.std.specs.Prelude.{Option, Result, IfSome, nat_lt, nat_eq, not, ◌==◌, ◌||◌, position}
 use Rattle.std.specs.Option.{option_map}
 use Rattle.std.proofs.lemmas.Bool.{cases_Bool, le-ltb}
 use Rattle.std.specs.List.{position_or_len}
-use Rattle.smack_base.specs.Modes.{is_letter}
+use Rattle.smack_base.specs.Modes.{is_letter, is_either_case, letter_b, dash}
 use Rattle.rule_text.proofs.Places.{no_place, one_more}
 use Rattle.smack_base.specs.Labels.{label_fault}
 use Rattle.smack_base.specs.Modes.{bad_letter}
@@ -14,7 +14,7 @@ use Rattle.text_spec.specs.declared.BadLine.{BadLine}
 use Rattle.text_spec.specs.declared.RuleForm.{RuleForm}
 use Rattle.text_spec.specs.declared.RuleForm.TheVariants.{Long, Short, Change}
 use Rattle.text_spec.specs.Texts.{Placed, TextLine}
-use Rattle.text_spec.specs.RuleTexts.{RuleWords, unless_fault, first_fault, unless_bare, line_answer, long_line, change_line, short_line, short_fields, short_label_fault, short_bad_letter, blank_words, field, deny_fault}
+use Rattle.text_spec.specs.RuleTexts.{RuleWords, unless_fault, first_fault, unless_bare, line_answer, long_line, change_line, short_line, short_fields, short_label_fault, is_short_letter, short_bad_letter, blank_words, field, deny_fault}
 use Rattle.rule_text.specs.declared.rule_line.RuleLine.{RuleLine}
 use Rattle.rule_text.specs.RuleAnswers.{seen, IsGood}
 
@@ -82,12 +82,14 @@ short_label_good text none =
       | inr e ↦ simp e at none
     ]
 
-or_left : (x y : Bool) → x ≡ true → (x || y) ≡ true
-or_left true y e = refl
-or_left false y e = cc
+-- what is one of more letters or a dash
+one_of_more : (some more dash : Bool) → not ((some || more) || dash) ≡ true → not (some || dash) ≡ true
+one_of_more true more dash e = e
+one_of_more false true dash e = cc
+one_of_more false false dash e = e
 
 short_modes_good : (text : List ℕ) → short_bad_letter text ≡ None → bad_letter text ≡ None
-short_modes_good text none = none_earlier (λ b. not (is_letter b)) _ (λ b e. or_left (not (is_letter b)) _ e) text none
+short_modes_good text none = none_earlier (λ b. not (is_letter b)) (λ b. not (is_short_letter b)) (λ b e. one_of_more _ (is_either_case letter_b b) (b == dash) e) text none
 
 short_good : (n : ℕ) (l : TextLine) (r : RuleWords) → short_line n l ≡ Ok r → AreGood r
 short_good n l r e =

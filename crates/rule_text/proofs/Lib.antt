@@ -12,3 +12,5 @@ pub mod GoodFields
 pub mod RuleSlices
 pub mod LabelSlices
 pub mod SubjectSlices
+mod CountedLines
+mod FirstFeed

@@ -1,8 +1,8 @@
-use Rattle.std.proofs.Common.{◌≡◌, ◌+◌, ◌-◌, ℕ, List, [], ◌∷◌, ◌++◌, arith, length, take, drop, refl, ap, ◌∙◌, sym, subst, inl, inr, append_assoc}
+use Rattle.std.proofs.Common.{◌≡◌, ◌+◌, ◌-◌, ℕ, true, false, List, [], ◌∷◌, ◌++◌, arith, length, take, drop, refl, ap, ◌∙◌, sym, subst, inl, inr, append_assoc}
 use Rattle.std.proofs.lemmas.Bool.{cases_Bool}
 use Rattle.std.proofs.lemmas.List.{drop-drop, drop_at, take_at, length-append}
-use Rattle.std.proofs.lemmas.List.Elements.{All-nil, All-cons, All-weaker}
-use Rattle.std.specs.List.{All}
+use Rattle.std.proofs.lemmas.List.Elements.{All-nil, All-cons, All-head, All-tail, All-weaker}
+use Rattle.std.specs.List.{All, list_any}
 use Rattle.text_spec.specs.Texts.{lines_from, in_first_line, whole_line, whole_lines, is_feed, TextLine, Placed}
 use Rattle.rule_text.specs.Slices.{LiesIn, line_part, Adjoin}
 use Rattle.rule_text.proofs.WholeLines.{whole_of_lines}
@@ -67,3 +67,22 @@ lines_lie at (l ∷ ls) h =
 pub lines_are : (at : ℕ) (bs : List ℕ) → All (λ l. LiesIn at bs (line_part l)) (lines_from at bs)
 lines_are at bs =
     subst (λ t. All (λ l. LiesIn at t (line_part l)) (lines_from at bs)) (whole_of_lines at bs) (lines_lie at (lines_from at bs) (lines_adjoin at bs))
+
+feeds_more : (at b : ℕ) (ls : List TextLine) → is_feed b ≡ false → All (λ l. list_any is_feed l.bytes ≡ false) ls
+    → All (λ l. list_any is_feed l.bytes ≡ false) (in_first_line at b ls)
+feeds_more at b [] e none =
+    All-cons (λ l. list_any is_feed l.bytes ≡ false) (record { at = at; bytes = b ∷ []; ended = false }) [] (simp e refl) (All-nil (λ l. list_any is_feed l.bytes ≡ false))
+feeds_more at b (l ∷ ls) e none =
+    All-cons (λ l. list_any is_feed l.bytes ≡ false) (record { at = at; bytes = b ∷ l.bytes; ended = l.ended }) ls
+    (simp e (All-head (λ l. list_any is_feed l.bytes ≡ false) l ls none)) (All-tail (λ l. list_any is_feed l.bytes ≡ false) l ls none)
+
+-- no line has a line feed in it
+pub no_feeds : (at : ℕ) (bs : List ℕ) → All (λ l. list_any is_feed l.bytes ≡ false) (lines_from at bs)
+no_feeds at [] = All-nil (λ l. list_any is_feed l.bytes ≡ false)
+no_feeds at (b ∷ bs) =
+    elim (cases_Bool (is_feed b)) [
+      | inl e ↦
+          simp e
+          (All-cons (λ l. list_any is_feed l.bytes ≡ false) (record { at = at; bytes = []; ended = true }) (lines_from (at + 1) bs) refl (no_feeds (at + 1) bs))
+      | inr e ↦ simp e (feeds_more at b (lines_from (at + 1) bs) e (no_feeds (at + 1) bs))
+    ]

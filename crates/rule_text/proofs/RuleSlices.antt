@@ -7,8 +7,8 @@ use Rattle.text_spec.specs.declared.RuleForm.{RuleForm}
 use Rattle.text_spec.specs.declared.RuleForm.TheVariants.{Long, Short, Change}
 use Rattle.text_spec.specs.declared.LineFault.{LineFault}
 use Rattle.text_spec.specs.declared.BadLine.{BadLine}
-use Rattle.text_spec.specs.Texts.{Placed, TextLine, is_blank}
-use Rattle.text_spec.specs.RuleTexts.{RuleWords, unless_fault, long_line, change_line, short_line, field, unless_bare, blank_words, line_answer, line_answers, before_more}
+use Rattle.text_spec.specs.Texts.{Placed, TextLine, lines_from, is_blank}
+use Rattle.text_spec.specs.RuleTexts.{RuleWords, unless_fault, long_line, change_line, short_line, field, unless_bare, blank_words, line_answer, line_answers, rule_answers, before_more}
 use Rattle.rule_text.specs.Slices.{LiesIn, FieldsLieIn, LiesInItsLine}
 use Rattle.rule_text.proofs.WordSlices.{words_are, lies_through}
 use Rattle.rule_text.proofs.Trimmed.{trimmed_lies}
@@ -124,3 +124,7 @@ pub fields_lie : (form : RuleForm) (n : ℕ) (ls : List TextLine) → All (λ b.
 fields_lie form n [] = All-nil (λ b. IfOk b (LiesInItsLine n []))
 fields_lie form n (l ∷ ls) =
     before_more_in n l ls (line_answer form n l) (line_answers form (n + 1) ls) (answer_in form n l) (fields_lie form (n + 1) ls)
+
+-- each field of a good line of a text lies in the line of its number
+pub rules_in_lines : (form : RuleForm) (text : List ℕ) → All (λ b. IfOk b (LiesInItsLine 1 (lines_from 0 text))) (rule_answers form text)
+rules_in_lines form text = fields_lie form 1 (lines_from 0 text)

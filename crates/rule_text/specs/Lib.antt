@@ -4,3 +4,4 @@ pub mod Slices
 pub mod RuleAnswers
 pub mod LeftWords
 pub mod LabelAnswers
+pub mod Counted

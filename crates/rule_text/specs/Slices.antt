@@ -1,4 +1,4 @@
-use Rattle.std.specs.Prelude.{◌≡◌, ℕ, ◌+◌, ◌-◌, ◌≤◌, ⊤, IfSome, IsSomeAnd, List, [], ◌∷◌, length, take, drop, slice_get}
+use Rattle.std.specs.Prelude.{◌≡◌, ℕ, ◌+◌, ◌-◌, ◌≤◌, ⊤, ◌⊎◌, IfSome, IsSomeAnd, List, [], ◌∷◌, length, take, drop, slice_get}
 use Rattle.text_spec.specs.Texts.{Placed, TextLine, whole_line}
 use Rattle.text_spec.specs.RuleTexts.{RuleWords}
 
@@ -7,6 +7,11 @@ pub record LiesIn (at : ℕ) (text : List ℕ) (p : Placed) : Type 0 where
   pub from : at ≤ p.at
   pub within : p.at + length p.bytes ≤ at + length text
   pub bytes : take (length p.bytes) (drop (p.at - at) text) ≡ p.bytes
+
+-- a run of bytes lies in one of these lines
+abbrev pub LiesInALine : List TextLine → Placed → Type 0
+LiesInALine [] p = ⊥
+LiesInALine (l ∷ ls) p = LiesIn l.at l.bytes p ⊎ LiesInALine ls p
 
 -- a line without its line feed, as a run of bytes
 abbrev pub line_part : TextLine → Placed

@@ -1,11 +1,14 @@
-ghost use Rattle.std.specs.Prelude.{◌≡◌, ◌≤◌, ◌∷◌, [], length, MatchOption, IfSome};
-ghost use Rattle.text_spec.specs.RuleTexts.{all_words, label_answers, only_word, is_dash, list_word};
+ghost use Rattle.std.specs.Prelude.{◌≡◌, ◌≤◌, ◌∷◌, [], length, MatchOption, IfSome, IfOk, All};
+ghost use Rattle.text_spec.specs.Texts.{lines_from};
+ghost use Rattle.rule_text.specs.Parts.{placed};
+ghost use Rattle.rule_text.specs.Slices.{LiesInALine};
+ghost use Rattle.text_spec.specs.RuleTexts.{all_words, words_answers, label_answers, only_word, is_dash, list_word};
 ghost use Rattle.rule_text.specs.LeftWords.{left_words, line_word, IsShort};
 ghost use Rattle.rule_text.specs.LabelAnswers.{seen_word, is_sole_dash, IsGoodLabel};
 
 use crate::part::Part;
-use crate::rule_line::fault_of_label;
 use crate::text_words::{NextWord, TextWords};
+use smack_base::Label;
 use std::marker::Model;
 use text_spec::{BadLine, LineFault};
 
@@ -56,7 +59,7 @@ fn read_label<'a>(next: NextWord<'a>) -> Result<Part<'a>, BadLine>
     ensures word { seen_word result ≡ list_word (line_word next.entry) }
     ensures good { IsGoodLabel result }
 {
-    match fault_of_label(next.word.bytes) {
+    match Label::fault(next.word.bytes) {
         Some(fault) => Err(BadLine {
             line: next.line,
             fault: LineFault::Label(fault),
@@ -65,17 +68,31 @@ fn read_label<'a>(next: NextWord<'a>) -> Result<Part<'a>, BadLine>
     }
 }
 
+/// The words of a list of labels: none where a dash is the only one.
+fn listed_words<'a>(text: &'a [u8]) -> TextWords<'a>
+    requires { length text.now ≤ 65536 }
+    ensures answers { words_answers (left_words result) ≡ label_answers (all_words text.now) }
+    ensures short { IsShort result }
+{
+    let words = TextWords::of(text);
+    if is_only_dash(words) {
+        words.end()
+    } else {
+        words
+    }
+}
+
 impl<'a> LabelWords<'a> {
-    /// The labels of a text of at most 65,536 bytes. A dash that is its only word stands for none.
+    /// The labels of a text of at most 65,536 bytes, each in a line of it. A dash that is its only
+    /// word stands for none.
+    #[tactic(auto, using(crate::proofs::LabelSlices::labels_in_lines))]
     pub fn of(text: &'a [u8]) -> LabelWords<'a>
         requires { length text.now ≤ 65536 }
-        ensures { result ≡ label_answers (all_words text.now) }
+        ensures answers { result ≡ label_answers (all_words text.now) }
+        ensures own_lines { All (λ answer. IfOk answer (LiesInALine (lines_from 0 text.now))) result }
     {
-        let words = TextWords::of(text);
-        if is_only_dash(words) {
-            LabelWords { left: words.end() }
-        } else {
-            LabelWords { left: words }
+        LabelWords {
+            left: listed_words(text),
         }
     }
 
@@ -104,9 +121,11 @@ impl<'a> LabelWords<'a> {
 
 /// The only word of a text of at most 65,536 bytes. Where it has none, the fault is in line 1, and
 /// where it has more than one, in the line of the second.
+#[tactic(auto, using(crate::proofs::LabelSlices::only_in_line))]
 pub fn one_word(text: &[u8]) -> Result<Part<'_>, BadLine>
     requires { length text.now ≤ 65536 }
-    ensures { seen_word result ≡ only_word (all_words text.now) }
+    ensures word { seen_word result ≡ only_word (all_words text.now) }
+    ensures own_line { IfOk result (λ p. LiesInALine (lines_from 0 text.now) (placed p)) }
 {
     let Some(first) = TextWords::of(text).next() else {
         return Err(BadLine {

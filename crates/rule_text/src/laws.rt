@@ -1,15 +1,18 @@
-ghost use Rattle.std.specs.Prelude.{◌≡◌, ℕ, Bool, List, map, All, IfOk};
-ghost use Rattle.text_spec.specs.Texts.{lines_from, words_from, whole_lines};
+ghost use Rattle.std.specs.Prelude.{◌≡◌, ℕ, Bool, List, map, All, IfOk, false};
+ghost use Rattle.std.specs.List.{list_any};
+ghost use Rattle.text_spec.specs.Texts.{is_feed, lines_from, words_from, whole_lines};
 ghost use Rattle.text_spec.specs.declared.RuleForm.{RuleForm};
 ghost use Rattle.text_spec.specs.RuleTexts.{rule_answers, subject_answers, label_answers, all_words, only_word};
 ghost use Rattle.rule_text.specs.Slices.{LiesIn, LiesInItsLine, line_part, Adjoin, AreApart, moved_line, moved_word};
 
 /// A law of lines: each is the slice of the text at its place, each begins where the one before
-/// it ends, and with their line feeds they are the whole text.
+/// it ends, no line feed is in one, and with their line feeds they are the whole text.
 pub fn lines_are_slices()
     ensures slices { (at : ℕ) (text : List ℕ) →
         All (λ l. LiesIn at text (line_part l)) (lines_from at text) }
     ensures order { (at : ℕ) (text : List ℕ) → Adjoin at (lines_from at text) }
+    ensures feeds { (at : ℕ) (text : List ℕ) →
+        All (λ l. list_any is_feed l.bytes ≡ false) (lines_from at text) }
     ensures whole { (at : ℕ) (text : List ℕ) → whole_lines (lines_from at text) ≡ text }
 {}
 

@@ -8,9 +8,11 @@
 //!
 //! The laws say that each part is the slice of the text at its place, and lies in its own line.
 //!
-//! The crate stands on `smack_base`, and on `text_spec`, where its definitions are.
+//! The crate stands on `smack_base`, on `text_spec`, where its definitions are, and on `memchr`, which
+//! finds the line feeds.
 #![tactic(auto)]
 
+mod counted;
 mod label_words;
 mod laws;
 mod lines;

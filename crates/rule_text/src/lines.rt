@@ -1,22 +1,17 @@
-ghost use Rattle.std.specs.Prelude.{◌≡◌, ◌<◌, ◌≤◌, ◌+◌, ◌∷◌, [], length, position, take, drop, MatchOption, IfSome};
+ghost use Rattle.std.specs.Prelude.{◌≡◌, ◌<◌, ◌≤◌, ◌+◌, ◌∷◌, [], length, take, drop, MatchOption, IfSome};
 ghost use Rattle.std.specs.List.{position_or_len};
 ghost use Rattle.text_spec.specs.Texts.{is_feed, whole_lines};
 ghost use Rattle.rule_text.specs.Parts.{Fits, end_of, lines_of, first_line};
 
 use crate::part::Part;
-
-fn line_feed(bytes: &[u8]) -> Option<usize>
-    ensures { result ≡ position is_feed bytes.now }
-{
-    bytes.iter().position(|b| *b == b'\n')
-}
+use memchr::memchr;
 
 /// How many bytes stand before the first line feed.
-#[tactic(auto, using(crate::proofs::Places::no_place, crate::proofs::Places::place_within))]
+#[tactic(auto, using(crate::proofs::FirstFeed::at_feed, crate::proofs::FirstFeed::no_feed))]
 fn line_len(bytes: &[u8]) -> usize
     ensures { result ≡ position_or_len is_feed bytes.now }
 {
-    match line_feed(bytes) {
+    match memchr(b'\n', bytes) {
         Some(at) => at,
         None => bytes.len(),
     }

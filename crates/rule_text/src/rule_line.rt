@@ -1,10 +1,9 @@
 ghost use Rattle.std.specs.Prelude.{◌≡◌};
-ghost use Rattle.smack_base.specs.Labels.{label_fault};
 ghost use Rattle.text_spec.specs.RuleTexts.{subject_fault, object_fault, allow_fault, deny_fault};
 ghost use Rattle.rule_text.specs.Parts.{Fits, placed};
 
 use crate::part::Part;
-use smack_base::{Label, LabelFault, Modes};
+use smack_base::{Label, Modes};
 use text_spec::LineFault;
 
 /// A good line of rules: its number in the text, from 1, and its fields, each at its place in the
@@ -19,20 +18,10 @@ pub struct RuleLine<'a> {
     pub deny: Option<Part<'a>>,
 }
 
-/// The first fault of a text as a label.
-pub(crate) fn fault_of_label(text: &[u8]) -> Option<LabelFault>
-    ensures { result ≡ label_fault text.now }
-{
-    match Label::read(text) {
-        Ok(_) => None,
-        Err(fault) => Some(fault),
-    }
-}
-
 pub(crate) fn fault_of_subject(subject: Part) -> Option<LineFault>
     ensures { result ≡ subject_fault (placed subject.entry) }
 {
-    match fault_of_label(subject.bytes) {
+    match Label::fault(subject.bytes) {
         Some(fault) => Some(LineFault::Subject(fault)),
         None => None,
     }
@@ -41,7 +30,7 @@ pub(crate) fn fault_of_subject(subject: Part) -> Option<LineFault>
 pub(crate) fn fault_of_object(object: Part) -> Option<LineFault>
     ensures { result ≡ object_fault (placed object.entry) }
 {
-    match fault_of_label(object.bytes) {
+    match Label::fault(object.bytes) {
         Some(fault) => Some(LineFault::Object(fault)),
         None => None,
     }

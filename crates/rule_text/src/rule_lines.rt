@@ -1,10 +1,12 @@
-ghost use Rattle.std.specs.Prelude.{◌≡◌, ◌≤◌, ◌+◌, ◌∷◌, [], length, MatchOption, IfSome, Some};
-ghost use Rattle.std.specs.Option.{option_map};
+ghost use Rattle.std.specs.Prelude.{◌≡◌, ◌≤◌, ◌+◌, ◌∷◌, [], false, length, MatchOption, IfSome, IfOk, All, Some};
+ghost use Rattle.text_spec.specs.Texts.{lines_from};
+ghost use Rattle.rule_text.specs.Slices.{LiesInItsLine};
 ghost use Rattle.text_spec.specs.RuleTexts.{line_answer, line_answers, rule_answers, before_more};
-ghost use Rattle.rule_text.specs.Parts.{end_of, lines_of, as_line};
+ghost use Rattle.rule_text.specs.Parts.{end_of, lines_of, placed, as_line};
+ghost use Rattle.rule_text.specs.Counted.{is_skipped, skipped_by as skipped_by_form};
 ghost use Rattle.rule_text.specs.RuleAnswers.{seen, IsGood};
 
-use crate::lines::split_line;
+use crate::counted::{Found, Skipped, first_counted};
 use crate::part::Part;
 use crate::rule_line::RuleLine;
 use crate::short_line::read_short;
@@ -35,11 +37,21 @@ impl<'a> Model for RuleLines<'a> {
     ghost invariant = { λ s. (s.line + length s.rest.bytes.now ≤ 65537) × (end_of s.rest ≤ 65536) };
 }
 
-/// What a line of this form is; None where it is skipped.
-fn read_line<'a>(form: RuleForm, line: u32, text: Part<'a>) -> Option<Result<RuleLine<'a>, BadLine>>
-    requires { end_of text ≤ 65536 }
-    ensures answer { option_map seen result ≡ line_answer form line (as_line text.entry) }
-    ensures good { IfSome result IsGood }
+fn skipped_by(form: RuleForm) -> Skipped
+    ensures { result ≡ skipped_by_form form }
+{
+    match form {
+        RuleForm::Long | RuleForm::Change => Skipped::Bare,
+        RuleForm::Short => Skipped::Empty,
+    }
+}
+
+/// What a line of this form is that is not skipped.
+fn read_line<'a>(form: RuleForm, line: u32, text: Part<'a>) -> Result<RuleLine<'a>, BadLine>
+    requires fits { end_of text ≤ 65536 }
+    requires is { is_skipped (skipped_by_form form) (placed text) ≡ false }
+    ensures answer { Some (seen result) ≡ line_answer form line (as_line text.entry) }
+    ensures good { IsGood result }
 {
     match form {
         RuleForm::Long => read_long(line, text),
@@ -48,16 +60,8 @@ fn read_line<'a>(form: RuleForm, line: u32, text: Part<'a>) -> Option<Result<Rul
     }
 }
 
-/// An answer, and the lines behind its line.
-#[derive(Clone, Copy)]
-struct Found<'a> {
-    answer: Result<RuleLine<'a>, BadLine>,
-    line: u32,
-    rest: Part<'a>,
-}
-
-/// The first line that is not skipped.
-fn first_answer<'a>(form: RuleForm, line: u32, text: Part<'a>) -> Option<Found<'a>>
+/// What the first line is that is not skipped.
+fn first_answer<'a>(form: RuleForm, line: u32, text: Part<'a>) -> Option<Found<'a, RuleLine<'a>>>
     requires count { line + length text.bytes.now ≤ 65537 }
     requires fits { end_of text ≤ 65536 }
     ensures answers { let all = line_answers form line (lines_of text.entry) in
@@ -68,27 +72,24 @@ fn first_answer<'a>(form: RuleForm, line: u32, text: Part<'a>) -> Option<Found<'
     ensures count { IfSome result (λ f. f.line + length f.rest.bytes.now ≤ 65537) }
     ensures fits { IfSome result (λ f. end_of f.rest ≤ 65536) }
 {
-    let mut number = line;
-    let mut rest = text;
-    while let Some((first, after)) = split_line(rest) {
-        if let Some(answer) = read_line(form, number, first) {
-            return Some(Found {
-                answer,
-                line: number + 1,
-                rest: after,
-            });
-        }
-        number += 1;
-        rest = after;
-    }
-    None
+    let Some(first) = first_counted(skipped_by(form), line, text) else {
+        return None;
+    };
+    Some(Found {
+        answer: read_line(form, first.number, first.line),
+        line: first.number + 1,
+        rest: first.rest,
+    })
 }
 
 impl<'a> RuleLines<'a> {
-    /// The lines of a text of this form, at most 65,536 bytes.
+    /// The lines of a text of this form, at most 65,536 bytes. Each part of a line lies in the line
+    /// of that number.
+    #[tactic(auto, using(crate::proofs::RuleSlices::rules_in_lines))]
     pub fn of(text: &'a [u8], form: RuleForm) -> RuleLines<'a>
         requires { length text.now ≤ 65536 }
-        ensures { result ≡ rule_answers form text.now }
+        ensures answers { result ≡ rule_answers form text.now }
+        ensures own_lines { All (λ answer. IfOk answer (LiesInItsLine 1 (lines_from 0 text.now))) result }
     {
         RuleLines {
             form,

@@ -1,16 +1,13 @@
-ghost use Rattle.std.specs.Prelude.{◌≡◌, ◌<◌, ◌≤◌, ◌+◌, ◌||◌, not, length, position, reverse, IfSome};
-ghost use Rattle.std.specs.Option.{option_map};
-ghost use Rattle.smack_base.specs.Modes.{is_letter, is_either_case, letter_b};
+ghost use Rattle.std.specs.Prelude.{◌≡◌, ◌<◌, ◌≤◌, ◌+◌, not, length, position, reverse, IfSome};
 ghost use Rattle.text_spec.specs.Texts.{is_space};
-ghost use Rattle.text_spec.specs.declared.RuleForm.TheVariants.{Short};
-ghost use Rattle.text_spec.specs.RuleTexts.{front_spaces, trimmed, field, short_label_fault, short_bad_letter, short_fields, line_answer};
+ghost use Rattle.text_spec.specs.RuleTexts.{front_spaces, trimmed, field, short_label_fault, is_short_letter as is_letter_of_short, short_bad_letter, short_fields, short_line};
 ghost use Rattle.rule_text.specs.Parts.{Fits, end_of, placed, as_line};
 ghost use Rattle.rule_text.specs.RuleAnswers.{seen};
 
 use crate::part::Part;
-use crate::rule_line::{RuleLine, fault_of_label};
+use crate::rule_line::RuleLine;
 use crate::words::{Separator, blank_len};
-use smack_base::{LabelFault, Modes};
+use smack_base::{Label, LabelFault};
 use text_spec::{BadLine, LineFault};
 
 fn last_bare(bytes: &[u8]) -> Option<usize>
@@ -57,20 +54,23 @@ fn fault_of_short_label(text: &[u8]) -> Option<LabelFault>
     if text.len() > 23 {
         return Some(LabelFault::TooLong);
     }
-    fault_of_label(text)
+    Label::fault(text)
 }
 
-fn is_bad_letter(b: u8) -> bool
-    ensures { result ≡ (not (is_letter b) || is_either_case letter_b b) }
+fn is_short_letter(b: u8) -> bool
+    ensures { result ≡ is_letter_of_short b }
 {
-    Modes::read(&[b]).is_err() || b == b'b' || b == b'B'
+    matches!(
+        b,
+        b'r' | b'R' | b'w' | b'W' | b'x' | b'X' | b'a' | b'A' | b't' | b'T' | b'-'
+    )
 }
 
 fn bad_short_letter(text: &[u8]) -> Option<usize>
     ensures place { result ≡ short_bad_letter text.now }
     ensures within { IfSome result (λ at. at < length text.now) }
 {
-    text.iter().position(|b| is_bad_letter(*b))
+    text.iter().position(|b| !is_short_letter(*b))
 }
 
 fn judge_short<'a>(
@@ -110,22 +110,23 @@ fn judge_short<'a>(
     }
 }
 
-/// A line of 53 bytes: subject 24, object 24, access 5; None where it has no byte.
-pub(crate) fn read_short<'a>(line: u32, text: Part<'a>) -> Option<Result<RuleLine<'a>, BadLine>>
+/// A line of 53 bytes: subject 24, object 24, access 5.
+pub(crate) fn read_short<'a>(line: u32, text: Part<'a>) -> Result<RuleLine<'a>, BadLine>
     requires { Fits text }
-    ensures { option_map seen result ≡ line_answer Short line (as_line text.entry) }
+    ensures { seen result ≡ short_line line (as_line text.entry) }
 {
-    match text.bytes.len() {
-        0 => None,
-        53 => Some(judge_short(
+    if text.bytes.len() == 53 {
+        return judge_short(
             line,
             field_at(text, 0, 24),
             field_at(text, 24, 24),
             field_at(text, 48, 5),
-        )),
-        n => Some(Err(BadLine {
-            line,
-            fault: LineFault::Width { n: n as u32 },
-        })),
+        );
     }
+    Err(BadLine {
+        line,
+        fault: LineFault::Width {
+            n: text.bytes.len() as u32,
+        },
+    })
 }

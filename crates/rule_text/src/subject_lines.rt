@@ -1,13 +1,14 @@
-ghost use Rattle.std.specs.Prelude.{◌≡◌, ◌≤◌, ◌+◌, ◌∷◌, [], length, MatchOption, IfSome, Some};
-ghost use Rattle.std.specs.Option.{option_map};
-ghost use Rattle.text_spec.specs.RuleTexts.{subject_line, subject_answer, subject_answers_from, subject_answers, before_more};
-ghost use Rattle.rule_text.specs.Parts.{Fits, end_of, lines_of, placed, as_line};
+ghost use Rattle.std.specs.Prelude.{◌≡◌, ◌≤◌, ◌+◌, ◌∷◌, [], length, MatchOption, IfSome, IfOk, All, Some};
+ghost use Rattle.text_spec.specs.Texts.{is_blank, lines_from};
+ghost use Rattle.rule_text.specs.Slices.{LiesInALine};
+ghost use Rattle.text_spec.specs.RuleTexts.{subject_line, subject_answers_from, subject_answers, before_more};
+ghost use Rattle.rule_text.specs.Parts.{Fits, end_of, lines_of, placed, words_of};
 ghost use Rattle.rule_text.specs.LabelAnswers.{seen_word, IsGoodLabel};
 
-use crate::lines::split_line;
+use crate::counted::{Found, Skipped, first_counted};
 use crate::part::Part;
-use crate::rule_line::fault_of_label;
 use crate::words::{Separator, split_word, word_count};
+use smack_base::Label;
 use std::marker::Model;
 use text_spec::{BadLine, LineFault};
 
@@ -34,11 +35,21 @@ impl<'a> Model for SubjectLines<'a> {
     ghost invariant = { λ s. (s.line + length s.rest.bytes.now ≤ 65537) × (end_of s.rest ≤ 65536) };
 }
 
+fn wrong_fields<'a>(line: u32, n: u32) -> Result<Part<'a>, BadLine>
+    ensures answer { seen_word result ≡ Err (record { line = line; fault = LineFault.Fields n }) }
+    ensures good { IsGoodLabel result }
+{
+    Err(BadLine {
+        line,
+        fault: LineFault::Fields { n },
+    })
+}
+
 fn judge_subject<'a>(line: u32, subject: Part<'a>) -> Result<Part<'a>, BadLine>
     ensures answer { seen_word result ≡ subject_line line (placed subject.entry ∷ []) }
     ensures good { IsGoodLabel result }
 {
-    match fault_of_label(subject.bytes) {
+    match Label::fault(subject.bytes) {
         Some(fault) => Err(BadLine {
             line,
             fault: LineFault::Subject(fault),
@@ -47,34 +58,23 @@ fn judge_subject<'a>(line: u32, subject: Part<'a>) -> Result<Part<'a>, BadLine>
     }
 }
 
-/// A line of one subject; None where it has no word.
-fn read_subject<'a>(line: u32, text: Part<'a>) -> Option<Result<Part<'a>, BadLine>>
+/// A line of one subject.
+fn read_subject<'a>(line: u32, text: Part<'a>) -> Result<Part<'a>, BadLine>
     requires { Fits text }
-    ensures answer { option_map seen_word result ≡ subject_answer line (as_line text.entry) }
-    ensures good { IfSome result IsGoodLabel }
+    ensures answer { seen_word result ≡ subject_line line (words_of is_blank text.entry) }
+    ensures good { IsGoodLabel result }
 {
     let Some((subject, rest)) = split_word(text, Separator::Blank) else {
-        return None;
+        return wrong_fields(line, 0);
     };
     match word_count(rest) {
-        0 => Some(judge_subject(line, subject)),
-        n => Some(Err(BadLine {
-            line,
-            fault: LineFault::Fields { n: 1 + n },
-        })),
+        0 => judge_subject(line, subject),
+        n => wrong_fields(line, 1 + n),
     }
 }
 
-/// An answer, and the lines behind its line.
-#[derive(Clone, Copy)]
-struct NextSubject<'a> {
-    answer: Result<Part<'a>, BadLine>,
-    line: u32,
-    rest: Part<'a>,
-}
-
-/// The first line that is not skipped.
-fn first_subject<'a>(line: u32, text: Part<'a>) -> Option<NextSubject<'a>>
+/// What the first line is that is not skipped.
+fn first_subject<'a>(line: u32, text: Part<'a>) -> Option<Found<'a, Part<'a>>>
     requires count { line + length text.bytes.now ≤ 65537 }
     requires fits { end_of text ≤ 65536 }
     ensures answers { let all = subject_answers_from line (lines_of text.entry) in
@@ -85,27 +85,23 @@ fn first_subject<'a>(line: u32, text: Part<'a>) -> Option<NextSubject<'a>>
     ensures count { IfSome result (λ f. f.line + length f.rest.bytes.now ≤ 65537) }
     ensures fits { IfSome result (λ f. end_of f.rest ≤ 65536) }
 {
-    let mut number = line;
-    let mut rest = text;
-    while let Some((first, after)) = split_line(rest) {
-        if let Some(answer) = read_subject(number, first) {
-            return Some(NextSubject {
-                answer,
-                line: number + 1,
-                rest: after,
-            });
-        }
-        number += 1;
-        rest = after;
-    }
-    None
+    let Some(first) = first_counted(Skipped::Bare, line, text) else {
+        return None;
+    };
+    Some(Found {
+        answer: read_subject(first.number, first.line),
+        line: first.number + 1,
+        rest: first.rest,
+    })
 }
 
 impl<'a> SubjectLines<'a> {
-    /// The subjects of a text of at most 65,536 bytes.
+    /// The subjects of a text of at most 65,536 bytes. Each lies in a line of it.
+    #[tactic(auto, using(crate::proofs::SubjectSlices::subjects_in_lines))]
     pub fn of(text: &'a [u8]) -> SubjectLines<'a>
         requires { length text.now ≤ 65536 }
-        ensures { result ≡ subject_answers text.now }
+        ensures answers { result ≡ subject_answers text.now }
+        ensures own_lines { All (λ answer. IfOk answer (LiesInALine (lines_from 0 text.now))) result }
     {
         SubjectLines {
             line: 1,

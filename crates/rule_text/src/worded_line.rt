@@ -1,8 +1,7 @@
 ghost use Rattle.std.specs.Prelude.{◌≡◌, ◌∷◌, []};
-ghost use Rattle.std.specs.Option.{option_map};
-ghost use Rattle.text_spec.specs.declared.RuleForm.TheVariants.{Long, Change};
-ghost use Rattle.text_spec.specs.RuleTexts.{line_answer, long_line, change_line};
-ghost use Rattle.rule_text.specs.Parts.{Fits, placed, as_line};
+ghost use Rattle.text_spec.specs.Texts.{is_blank};
+ghost use Rattle.text_spec.specs.RuleTexts.{long_line, change_line};
+ghost use Rattle.rule_text.specs.Parts.{Fits, placed, words_of};
 ghost use Rattle.rule_text.specs.RuleAnswers.{seen, fields_of, denying};
 
 use crate::part::Part;
@@ -49,23 +48,23 @@ fn judge_long<'a>(
     }
 }
 
-/// A line of subject, object and access; None where it has no word.
-pub(crate) fn read_long<'a>(line: u32, text: Part<'a>) -> Option<Result<RuleLine<'a>, BadLine>>
+/// A line of subject, object and access.
+pub(crate) fn read_long<'a>(line: u32, text: Part<'a>) -> Result<RuleLine<'a>, BadLine>
     requires { Fits text }
-    ensures { option_map seen result ≡ line_answer Long line (as_line text.entry) }
+    ensures { seen result ≡ long_line line (words_of is_blank text.entry) }
 {
     let Some((subject, rest)) = split_word(text, Separator::Blank) else {
-        return None;
+        return wrong_fields(line, 0);
     };
     let Some((object, rest)) = split_word(rest, Separator::Blank) else {
-        return Some(wrong_fields(line, 1));
+        return wrong_fields(line, 1);
     };
     let Some((allow, rest)) = split_word(rest, Separator::Blank) else {
-        return Some(wrong_fields(line, 2));
+        return wrong_fields(line, 2);
     };
     match word_count(rest) {
-        0 => Some(judge_long(line, subject, object, allow)),
-        n => Some(wrong_fields(line, 3 + n)),
+        0 => judge_long(line, subject, object, allow),
+        n => wrong_fields(line, 3 + n),
     }
 }
 
@@ -103,25 +102,25 @@ fn judge_change<'a>(
     }
 }
 
-/// A line of subject, object, allow and deny; None where it has no word.
-pub(crate) fn read_change<'a>(line: u32, text: Part<'a>) -> Option<Result<RuleLine<'a>, BadLine>>
+/// A line of subject, object, allow and deny.
+pub(crate) fn read_change<'a>(line: u32, text: Part<'a>) -> Result<RuleLine<'a>, BadLine>
     requires { Fits text }
-    ensures { option_map seen result ≡ line_answer Change line (as_line text.entry) }
+    ensures { seen result ≡ change_line line (words_of is_blank text.entry) }
 {
     let Some((subject, rest)) = split_word(text, Separator::Blank) else {
-        return None;
+        return wrong_fields(line, 0);
     };
     let Some((object, rest)) = split_word(rest, Separator::Blank) else {
-        return Some(wrong_fields(line, 1));
+        return wrong_fields(line, 1);
     };
     let Some((allow, rest)) = split_word(rest, Separator::Blank) else {
-        return Some(wrong_fields(line, 2));
+        return wrong_fields(line, 2);
     };
     let Some((deny, rest)) = split_word(rest, Separator::Blank) else {
-        return Some(wrong_fields(line, 3));
+        return wrong_fields(line, 3);
     };
     match word_count(rest) {
-        0 => Some(judge_change(line, subject, object, allow, deny)),
-        n => Some(wrong_fields(line, 4 + n)),
+        0 => judge_change(line, subject, object, allow, deny),
+        n => wrong_fields(line, 4 + n),
     }
 }

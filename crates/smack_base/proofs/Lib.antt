@@ -1,3 +1,5 @@
 pub mod Places
 pub mod NamesOfPaths
 pub mod LongestPath
+pub mod ModeLetters
+pub mod HeldModes

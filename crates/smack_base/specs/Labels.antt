@@ -1,11 +1,12 @@
-use Rattle.std.specs.Prelude.{ℕ, Bool, false, ◌&&◌, not, ◌==◌, if◌then◌else◌, List, [], ◌∷◌, Option, Some, position, is_none, nat_lt, nat_le, length}
+use Rattle.std.specs.Prelude.{ℕ, Bool, false, ◌&&◌, not, ◌==◌, if◌then◌else◌, List, [], ◌∷◌, Option, Some, position, is_none, nat_lt, length}
+use Rattle.std.specs.Char.{is_ascii_graphic}
 use Rattle.std.specs.Option.{option_map}
 use Rattle.smack_base.specs.declared.label.LabelFault.{LabelFault}
 use Rattle.smack_base.specs.declared.label.LabelFault.TheVariants.{Empty, TooLong, LeadingDash, BadByte}
 
 -- a byte from ! to ~ that is none of / \ ' "
 abbrev pub is_label_byte : ℕ → Bool
-is_label_byte b = nat_le 33 b && nat_le b 126 && not (b == 47) && not (b == 92) && not (b == 39) && not (b == 34)
+is_label_byte b = is_ascii_graphic b && not (b == 47) && not (b == 92) && not (b == 39) && not (b == 34)
 
 -- whether the first byte of a text is a dash
 abbrev pub begins_with_dash : List ℕ → Bool

@@ -1,4 +1,4 @@
-use Rattle.std.specs.Prelude.{◌+◌, ℕ, Bool, false, ◌||◌, ◌&&◌, not, ◌==◌, if◌then◌else◌, List, [], ◌∷◌, ◌++◌, Option, position, is_none}
+use Rattle.std.specs.Prelude.{◌+◌, ℕ, Bool, true, false, ◌||◌, ◌&&◌, not, ◌==◌, if◌then◌else◌, List, [], ◌∷◌, ◌++◌, Option, position, is_none}
 use Rattle.std.specs.List.{list_any}
 use Rattle.smack_base.specs.declared.modes.Modes.{Modes}
 
@@ -60,6 +60,10 @@ modes_of text = record {
 -- no access
 abbrev pub no_modes : Modes
 no_modes = record { read = false; write = false; execute = false; append = false; transmute = false; bring_up = false }
+
+-- read and execute
+abbrev pub read_execute : Modes
+read_execute = record no_modes { read = true; execute = true }
 
 -- m has every mode of n
 abbrev pub holds : Modes → Modes → Bool

@@ -1,4 +1,5 @@
-use Rattle.std.specs.Prelude.{ℕ, ◌+◌, Bool, false, ◌&&◌, not, ◌==◌, if◌then◌else◌, List, [], ◌∷◌, Option, Some, None, Result, Ok, Err, length, map, position, nat_lt, nat_le}
+use Rattle.std.specs.Prelude.{ℕ, ◌+◌, Bool, false, ◌&&◌, not, ◌==◌, if◌then◌else◌, List, [], ◌∷◌, Option, Some, None, Result, Ok, Err, length, map, position, nat_lt}
+use Rattle.std.specs.Char.{is_ascii_graphic}
 use Rattle.std.specs.Option.{option_map}
 use Rattle.smack_base.specs.declared.path.PathFault.{PathFault}
 use Rattle.smack_base.specs.declared.path.PathFault.TheVariants.{NotAbsolute, EmptyName, NameTooLong, DotName, BadByte, TooDeep}
@@ -30,7 +31,7 @@ is_dots bytes = false
 
 -- a byte from ! to ~
 abbrev pub is_name_byte : ℕ → Bool
-is_name_byte b = nat_le 33 b && nat_le b 126
+is_name_byte b = is_ascii_graphic b
 
 -- the first fault of a name, if it has one
 abbrev pub name_fault : PathName → Option PathFault

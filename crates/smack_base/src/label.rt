@@ -13,13 +13,14 @@ pub struct Label {
 }
 
 impl Model for Label {
-    ghost use Rattle.std.specs.Prelude.{List, ℕ, take, ◌≤◌};
+    ghost use Rattle.std.specs.Prelude.{List, ℕ, take, ◌≤◌, ◌≡◌, None};
+    ghost use Rattle.smack_base.specs.Labels.{label_fault};
 
     ghost Value = { List ℕ };
 
     ghost view = { λ l. take l.len l.buf };
 
-    ghost invariant = { λ l. l.len ≤ 255 };
+    ghost invariant = { λ l. (l.len ≤ 255) × (label_fault (take l.len l.buf) ≡ None) };
 }
 
 /// What is wrong with a text as a label, the first in this order.
@@ -38,7 +39,7 @@ pub enum LabelFault {
 fn is_of_label(b: u8) -> bool
     ensures { result ≡ is_label_byte b }
 {
-    b >= 0x21 && b <= 0x7E && b != b'/' && b != b'\\' && b != b'\'' && b != b'"'
+    b.is_ascii_graphic() && b != b'/' && b != b'\\' && b != b'\'' && b != b'"'
 }
 
 fn first_bad(bytes: &[u8]) -> Option<usize>
@@ -48,37 +49,40 @@ fn first_bad(bytes: &[u8]) -> Option<usize>
     bytes.iter().position(|b| !is_of_label(*b))
 }
 
-fn fault_of(bytes: &[u8]) -> Option<LabelFault>
-    ensures { result ≡ label_fault bytes.now }
-{
-    if bytes.is_empty() {
-        return Some(LabelFault::Empty);
-    }
-    if bytes.len() > 255 {
-        return Some(LabelFault::TooLong);
-    }
-    if bytes[0] == b'-' {
-        return Some(LabelFault::LeadingDash);
-    }
-    match first_bad(bytes) {
-        Some(at) => Some(LabelFault::BadByte { at: at as u32 }),
-        None => None,
-    }
-}
-
 impl Label {
+    /// The first fault of a text as a label; None exactly where it is a label. The text is judged
+    /// where it lies.
+    pub fn fault(bytes: &[u8]) -> Option<LabelFault>
+        ensures { result ≡ label_fault bytes.now }
+    {
+        if bytes.is_empty() {
+            return Some(LabelFault::Empty);
+        }
+        if bytes.len() > 255 {
+            return Some(LabelFault::TooLong);
+        }
+        if bytes[0] == b'-' {
+            return Some(LabelFault::LeadingDash);
+        }
+        match first_bad(bytes) {
+            Some(at) => Some(LabelFault::BadByte { at: at as u32 }),
+            None => None,
+        }
+    }
+
     /// The label that these bytes are, or the first fault that they have.
     pub fn read(bytes: &[u8]) -> Result<Label, LabelFault>
         ensures { MatchResult result (λ l. (label_fault bytes.now ≡ None) × (l ≡ bytes.now)) (λ f. label_fault bytes.now ≡ Some f) }
     {
-        match fault_of(bytes) {
+        match Label::fault(bytes) {
             Some(fault) => Err(fault),
             None => Ok(Label::of(bytes)),
         }
     }
 
     fn of(bytes: &[u8]) -> Label
-        requires { length bytes.now ≤ 255 }
+        requires short { length bytes.now ≤ 255 }
+        requires label { label_fault bytes.now ≡ None }
         ensures { result ≡ bytes.now }
     {
         let mut buf = [0u8; 255];
@@ -89,9 +93,10 @@ impl Label {
         }
     }
 
-    /// The bytes of the label.
+    /// The bytes of the label: a text without a fault.
     pub fn bytes(&self) -> &[u8]
-        ensures { result.now ≡ self.now }
+        ensures text { result.now ≡ self.now }
+        ensures label { label_fault self.now ≡ None }
     {
         &self.buf[..self.len]
     }

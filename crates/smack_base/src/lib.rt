@@ -12,6 +12,7 @@
 mod cap;
 mod ids;
 mod label;
+mod laws;
 mod modes;
 mod path;
 mod path_names;
@@ -25,6 +26,7 @@ mod tests;
 pub use cap::Cap;
 pub use ids::{LabelId, Pid};
 pub use label::{Label, LabelFault};
+pub use laws::holding_is_inclusion;
 pub use modes::{BadLetter, ModeText, Modes};
 pub use path::{Path, PathFault, is_path};
 pub use rule_op::{Pair, Pairs, RuleOp, RuleOps};

@@ -1,5 +1,5 @@
-ghost use Rattle.std.specs.Prelude.{◌≡◌, ◌<◌, ◌^◌, ◌≤◌, ◌++◌, length, MatchResult, IfSome, Some, None};
-ghost use Rattle.smack_base.specs.Modes.{modes_of, letters_of, is_letter, is_either_case, has_letter, bad_letter, is_modes, holds, union, without, when};
+ghost use Rattle.std.specs.Prelude.{◌≡◌, ◌<◌, ◌^◌, ◌≤◌, ◌++◌, ◌∷◌, [], length, MatchResult, Some, None};
+ghost use Rattle.smack_base.specs.Modes.{modes_of, letters_of, is_letter, bad_letter, is_modes, holds, union, without, when};
 
 use std::marker::Model;
 
@@ -35,23 +35,8 @@ fn is_mode_letter(b: u8) -> bool
     )
 }
 
-fn is_in_either_case(small: u8, b: u8) -> bool
-    requires { 32 ≤ small }
-    ensures { result ≡ is_either_case small b }
-{
-    b == small || b == small - 32
-}
-
-fn has(small: u8, text: &[u8]) -> bool
-    requires { 32 ≤ small }
-    ensures { result ≡ has_letter small text.now }
-{
-    text.iter().any(|b| is_in_either_case(small, *b))
-}
-
 fn first_bad(bytes: &[u8]) -> Option<usize>
-    ensures place { result ≡ bad_letter bytes.now }
-    ensures within { IfSome result (λ at. at < length bytes.now) }
+    ensures { result ≡ bad_letter bytes.now }
 {
     bytes.iter().position(|b| !is_mode_letter(*b))
 }
@@ -67,16 +52,28 @@ impl Modes {
         bring_up: false,
     };
 
+    /// Read and execute, which the ordered cases tell from the other modes.
+    pub const READ_EXECUTE: Modes = Modes {
+        read: true,
+        execute: true,
+        ..Modes::NONE
+    };
+
     /// The set of the letters in a text: any order, either case, repeats and `-` without effect,
     /// an empty text no access; or the first bad letter.
+    #[tactic(auto, using(crate::proofs::ModeLetters::letters_more, crate::proofs::ModeLetters::letters_all, crate::proofs::ModeLetters::bad_first, crate::proofs::ModeLetters::bad_here, crate::proofs::ModeLetters::bad_later, crate::proofs::ModeLetters::bad_none))]
     pub fn read(bytes: &[u8]) -> Result<Modes, BadLetter>
         requires { length bytes.now < 2 ^ 32 }
         ensures { MatchResult result (λ m. (bad_letter bytes.now ≡ None) × (m ≡ modes_of bytes.now)) (λ bad. bad_letter bytes.now ≡ Some bad.at) }
     {
-        match first_bad(bytes) {
-            Some(at) => Err(BadLetter { at: at as u32 }),
-            None => Ok(Modes::of(bytes)),
+        let mut modes = Modes::NONE;
+        for (at, letter) in bytes.iter().enumerate() {
+            if !is_mode_letter(*letter) {
+                return Err(BadLetter { at: at as u32 });
+            }
+            modes = modes.with_letter(*letter);
         }
+        Ok(modes)
     }
 
     /// Whether a text is a mode set: it has no byte but mode letters and `-`.
@@ -87,16 +84,44 @@ impl Modes {
     }
 
     /// The set of the letters that stand in a text, whatever else stands there.
+    #[tactic(auto, using(crate::proofs::ModeLetters::letters_more, crate::proofs::ModeLetters::letters_all))]
     pub fn of(bytes: &[u8]) -> Modes
         ensures { result ≡ modes_of bytes.now }
     {
-        Modes {
-            read: has(b'r', bytes),
-            write: has(b'w', bytes),
-            execute: has(b'x', bytes),
-            append: has(b'a', bytes),
-            transmute: has(b't', bytes),
-            bring_up: has(b'b', bytes),
+        let mut modes = Modes::NONE;
+        for letter in bytes.iter() {
+            modes = modes.with_letter(*letter);
+        }
+        modes
+    }
+
+    /// The set with the mode of a letter; the same set where the byte is no letter.
+    fn with_letter(self, letter: u8) -> Modes
+        ensures { result ≡ union self (modes_of (letter ∷ [])) }
+    {
+        match letter {
+            b'r' | b'R' => Modes { read: true, ..self },
+            b'w' | b'W' => Modes {
+                write: true,
+                ..self
+            },
+            b'x' | b'X' => Modes {
+                execute: true,
+                ..self
+            },
+            b'a' | b'A' => Modes {
+                append: true,
+                ..self
+            },
+            b't' | b'T' => Modes {
+                transmute: true,
+                ..self
+            },
+            b'b' | b'B' => Modes {
+                bring_up: true,
+                ..self
+            },
+            _ => self,
         }
     }
 

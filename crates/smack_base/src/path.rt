@@ -54,7 +54,7 @@ const LONGEST_PATH: usize = 2080;
 fn is_of_name(b: u8) -> bool
     ensures { result ≡ is_name_byte b }
 {
-    b >= 0x21 && b <= 0x7E
+    b.is_ascii_graphic()
 }
 
 fn first_bad(name: &[u8]) -> Option<usize>

@@ -76,6 +76,14 @@ impl<T: Drop> Sequence<T> {
         self.list.push(item)?;
         Ok(())
     }
+
+    /// Takes the memory for so many more items. The list is as before.
+    pub fn reserve(&mut self, more: usize) -> Result<(), AllocError>
+        ensures { self.new ≡ self.old }
+    {
+        self.list.reserve(more)?;
+        Ok(())
+    }
 }
 
 impl<T: Copy> Sequence<T> {
@@ -90,7 +98,7 @@ impl<T: Copy> Sequence<T> {
 
 impl<T: Duplicate + Drop> Duplicate for Sequence<T> {
     fn copy(&self) -> Result<Sequence<T>, AllocError> {
-        let mut list = Vec::new(*self.list.allocator());
+        let mut list = Vec::with_capacity(*self.list.allocator(), self.list.len())?;
         for item in self.list.iter() {
             list.push(item.copy()?)?;
         }

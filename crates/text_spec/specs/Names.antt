@@ -1,6 +1,7 @@
-use Rattle.std.specs.Prelude.{ℕ, Bool, if◌then◌else◌, List, [], ◌∷◌, ◌++◌, Option, Some, None, length, fold, codes, nat_lt}
-use Rattle.std.specs.List.{position_or_len}
+use Rattle.std.specs.Prelude.{◌≡◌, ◌<◌, ℕ, Bool, true, if◌then◌else◌, List, [], ◌∷◌, ◌++◌, Option, Some, None, length, take, fold, codes, slice_index_or, nat_lt}
+use Rattle.std.specs.List.{position_or_len, AllByRecursion}
 use Rattle.std.specs.Str.{bytes_eq}
+use Rattle.smack_base.specs.Labels.{is_label}
 use Rattle.smack_base.specs.declared.ids.LabelId.{LabelId}
 
 -- the place of a name in a table, or the table's length
@@ -21,6 +22,13 @@ with_names table names = fold with_name table names
 -- the labels that every table begins with: _ ^ * ? @
 abbrev pub predefined : List (List ℕ)
 predefined = codes "_" ∷ codes "^" ∷ codes "*" ∷ codes "?" ∷ codes "@" ∷ []
+
+-- A table of labels: each of its texts is a label, none stands twice (the place of a label is its id), and it begins
+-- with the predefined ones.
+pub record IsLabelTable (labels : List (List ℕ)) : Type 0 where
+  pub are : AllByRecursion (λ label. is_label label ≡ true) labels
+  pub once : (id : ℕ) → id < length labels → place_of labels (slice_index_or labels id []) ≡ id
+  pub begins : take 5 labels ≡ predefined
 
 -- the id of a label, where the table has it
 abbrev pub id_of : List (List ℕ) → List ℕ → Option LabelId

@@ -2,7 +2,7 @@ use Rattle.std.specs.Prelude.{ℕ, ◌+◌, Bool, false, ◌||◌, not, ◌==◌
 use Rattle.std.specs.Option.{option_map}
 use Rattle.std.specs.List.{position_or_len}
 use Rattle.smack_base.specs.Labels.{label_fault}
-use Rattle.smack_base.specs.Modes.{bad_letter, is_letter, is_either_case, letter_b}
+use Rattle.smack_base.specs.Modes.{bad_letter, is_either_case, letter_r, letter_w, letter_x, letter_a, letter_t, dash}
 use Rattle.smack_base.specs.declared.label.LabelFault.{LabelFault}
 use Rattle.smack_base.specs.declared.label.LabelFault.TheVariants.{TooLong}
 use Rattle.text_spec.specs.declared.RuleForm.{RuleForm}
@@ -81,9 +81,14 @@ field from len l = trimmed (record { at = l.at + from; bytes = take len (drop fr
 abbrev pub short_label_fault : List ℕ → Option LabelFault
 short_label_fault text = if nat_lt 23 (length text) then Some TooLong else label_fault text
 
--- the modes of a line of fixed width lack the letter b
+-- the letters of a line of fixed width: r w x a t, and the dash
+abbrev pub is_short_letter : ℕ → Bool
+is_short_letter b =
+    is_either_case letter_r b || is_either_case letter_w b || is_either_case letter_x b || is_either_case letter_a b
+    || is_either_case letter_t b || (b == dash)
+
 abbrev pub short_bad_letter : List ℕ → Option ℕ
-short_bad_letter text = position (λ b. not (is_letter b) || is_either_case letter_b b) text
+short_bad_letter text = position (λ b. not (is_short_letter b)) text
 
 abbrev pub short_fields : ℕ → Placed → Placed → Placed → Result RuleWords BadLine
 short_fields line s o a =
@@ -119,10 +124,13 @@ before_more None more = more
 before_more (Some (Ok r)) more = Ok r ∷ more
 before_more (Some (Err b)) more = Err b ∷ []
 
--- what lines of this form are, from this number on: each that is not skipped, up to the first bad one
+-- what lines are, from this number on, where this is what a line is: each that is not skipped, up to the first bad one
+abbrev pub answers_from : {A : Type 0} → (ℕ → TextLine → Option (Result A BadLine)) → ℕ → List TextLine → List (Result A BadLine)
+answers_from answer line [] = []
+answers_from answer line (l ∷ ls) = before_more (answer line l) (answers_from answer (line + 1) ls)
+
 abbrev pub line_answers : RuleForm → ℕ → List TextLine → List (Result RuleWords BadLine)
-line_answers form line [] = []
-line_answers form line (l ∷ ls) = before_more (line_answer form line l) (line_answers form (line + 1) ls)
+line_answers form line ls = answers_from (line_answer form) line ls
 
 -- what a text of this form is, line by line
 abbrev pub rule_answers : RuleForm → List ℕ → List (Result RuleWords BadLine)
@@ -136,10 +144,8 @@ subject_line line words = fields_fault line words
 abbrev pub subject_answer : ℕ → TextLine → Option (Result Placed BadLine)
 subject_answer line l = unless_bare (blank_words l) (subject_line line (blank_words l))
 
--- what lines of subjects are, from this number on
 abbrev pub subject_answers_from : ℕ → List TextLine → List (Result Placed BadLine)
-subject_answers_from line [] = []
-subject_answers_from line (l ∷ ls) = before_more (subject_answer line l) (subject_answers_from (line + 1) ls)
+subject_answers_from line ls = answers_from subject_answer line ls
 
 -- what a text of subjects is, line by line
 abbrev pub subject_answers : List ℕ → List (Result Placed BadLine)
