@@ -1,9 +1,13 @@
 use Rattle.std.specs.Prelude.{◌≡◌, List, Result, Ok, Err}
 use Rattle.smack_base.specs.declared.rule_op.RuleOp.{RuleOp}
-use Rattle.script_spec.specs.declared.Refusal.{Refusal}
-use Rattle.script_spec.specs.declared.Compiled.{Compiled}
+use Rattle.text_spec.specs.declared.BadLine.{BadLine}
+use Rattle.file_spec.specs.Writes.{NamedWrite}
+use Rattle.file_spec.specs.declared.Refusal.{Refusal}
+use Rattle.file_spec.specs.declared.Compiled.{Compiled}
 use Rattle.smackfs.specs.declared.compiling.TextFault.{TextFault}
 use Rattle.smackfs.specs.declared.compiling.TextFault.TheVariants.{Refused, Memory}
+use Rattle.smackfs.specs.declared.text_writes.WritesFault.{WritesFault}
+use Rattle.smackfs.specs.declared.text_writes.WritesFault.TheVariants.{Bad, Memory as NoMemory}
 
 -- why there is no answer; want of memory is free
 abbrev pub Faults : {A : Type 0} → TextFault → Result A Refusal → Type 0
@@ -19,3 +23,8 @@ Gives (Err fault) is = Faults fault is
 abbrev pub Compiles : Result Compiled TextFault → Result Compiled Refusal → Type 0
 Compiles (Ok it) is = is ≡ Ok it
 Compiles (Err fault) is = Faults fault is
+
+-- why the writes of a text were not read: it has this bad line; want of memory is free
+abbrev pub IsBadText : WritesFault → Result (List NamedWrite) BadLine → Type 0
+IsBadText (Bad b) whole = whole ≡ Err b
+IsBadText NoMemory whole = Unit {0}

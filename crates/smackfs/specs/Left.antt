@@ -1,6 +1,6 @@
 use Rattle.std.specs.Prelude.{List, [], ◌∷◌, Some, None, Option, Result, Ok, if◌then◌else◌, map, IfSome}
 use Rattle.text_spec.specs.declared.BadLine.{BadLine}
-use Rattle.script_spec.specs.Writes.{NamedWrite, NamedRevoke, NamedClear, NamedAdd, on_good, set_write, change_write}
+use Rattle.file_spec.specs.Writes.{NamedWrite, NamedRevoke, NamedClear, NamedAdd, on_good, set_write, change_write}
 use Rattle.smackfs.specs.Named.{seen_op, IsGoodOp}
 use Rattle.smackfs.specs.declared.named_op.NamedOp.{NamedOp}
 use Rattle.smackfs.specs.declared.text_writes.ListWrites.{ListWrites}
@@ -28,5 +28,8 @@ left (Single answer) = one_left answer
 
 -- a single answer that is still to come has good names
 abbrev pub IsGoodReader : Reader → Type 0
+IsGoodReader (Sets lines) = Unit {0}
+IsGoodReader (Changes lines) = Unit {0}
+IsGoodReader (Revokes lines) = Unit {0}
+IsGoodReader (Onlycap list) = Unit {0}
 IsGoodReader (Single answer) = IfSome answer IsGoodOp
-IsGoodReader _ = Unit {0}

@@ -4,7 +4,7 @@ use Rattle.smack_base.specs.Labels.{is_label}
 use Rattle.smack_base.specs.declared.ids.LabelId.{LabelId}
 use Rattle.text_spec.specs.declared.BadLine.{BadLine}
 use Rattle.rule_text.specs.Parts.{placed}
-use Rattle.script_spec.specs.Writes.{NamedWrite, NamedSet, NamedChange, NamedRevoke, NamedClear, NamedAdd, NamedAmbient, NamedPtrace, NamedLogging, names_of}
+use Rattle.file_spec.specs.Writes.{NamedWrite, NamedSet, NamedChange, NamedRevoke, NamedClear, NamedAdd, NamedAmbient, NamedPtrace, NamedLogging, names_of}
 use Rattle.smackfs.specs.declared.named_op.NamedOp.{NamedOp}
 use Rattle.smackfs.specs.declared.named_op.NamedOp.TheVariants.{Set, Change, Revoke, OnlyClear, OnlyAdd, Ambient, Ptrace, Logging}
 

@@ -1,17 +1,18 @@
-ghost use Rattle.std.specs.Prelude.{◌≡◌, ◌≤◌, true, length, is_ok};
+ghost use Rattle.std.specs.Prelude.{◌≡◌, ◌≤◌, length, map, IfOk};
+ghost use Rattle.std.specs.List.{flat_map};
 ghost use Rattle.text_spec.specs.Names.{id_of};
-ghost use Rattle.script_spec.specs.Writes.{rule_file as rule_file_of_name, line_of, writes_of_text};
-ghost use Rattle.script_spec.specs.Files.{op_of, ops_of_writes, compiled};
+ghost use Rattle.file_spec.specs.Writes.{rule_file as rule_file_of_name, self_file as self_file_of_name, file_of as file_of_name, read_as as is_read_as, line_of, writes_of_text};
+ghost use Rattle.file_spec.specs.Files.{op_of, ops_of, ops_of_writes, pair_set, label_added, becomes, compiled};
 ghost use Rattle.smackfs.specs.Gives.{Gives, Compiles};
 ghost use Rattle.smackfs.specs.Named.{named, both};
 
 use crate::named_op::NamedOp;
-use crate::text_writes::{TextWrites, first_bad, line_at};
+use crate::text_writes::{WritesFault, line_at, read_writes};
+use file_spec::{Compiled, Refusal, RuleFile, SelfFile, SmackFile};
 use label_table::Labels;
 use rule_text::Part;
-use script_spec::{Compiled, Refusal, RuleFile};
-use smack_base::{LabelId, RuleOp, RuleOps};
-use std::alloc::Global;
+use smack_base::{Ids, LabelId, Pair, Pairs, RuleOp, RuleOps};
+use std::alloc::{AllocError, Global};
 use thiserror::Error;
 
 /// Why a text was not compiled.
@@ -47,6 +48,46 @@ pub fn rule_file(name: &[u8]) -> Option<RuleFile>
         Some(RuleFile::Logging)
     } else {
         None
+    }
+}
+
+/// The file of the writing task with this name; None where none has it.
+fn self_file(name: &[u8]) -> Option<SelfFile>
+    ensures { result ≡ self_file_of_name name.now }
+{
+    if name == b"load-self2".as_slice() {
+        Some(SelfFile::LoadSelf2)
+    } else if name == b"load-self".as_slice() {
+        Some(SelfFile::LoadSelf)
+    } else if name == b"relabel-self".as_slice() {
+        Some(SelfFile::RelabelSelf)
+    } else {
+        None
+    }
+}
+
+/// The file with this name; None where no smackfs file has it.
+pub fn file_of(name: &[u8]) -> Option<SmackFile>
+    ensures { result ≡ file_of_name name.now }
+{
+    if let Some(file) = rule_file(name) {
+        return Some(SmackFile::Rule(file));
+    }
+    match self_file(name) {
+        Some(file) => Some(SmackFile::Own(file)),
+        None => None,
+    }
+}
+
+/// The file of rules by whose form a file's text is read.
+pub fn read_as(file: SmackFile) -> RuleFile
+    ensures { result ≡ is_read_as file }
+{
+    match file {
+        SmackFile::Rule(file) => file,
+        SmackFile::Own(SelfFile::LoadSelf2) => RuleFile::Load2,
+        SmackFile::Own(SelfFile::LoadSelf) => RuleFile::Load,
+        SmackFile::Own(SelfFile::RelabelSelf) => RuleFile::Onlycap,
     }
 }
 
@@ -102,23 +143,29 @@ fn op_in(labels: &Labels, text: &[u8], op: NamedOp<'_>) -> Result<RuleOp, Refusa
     }
 }
 
-/// The writes of a text without a bad line, or the first line with a label that the table lacks.
-fn ops_in(alloc: Global, labels: &Labels, file: RuleFile, text: &[u8]) -> Result<RuleOps, TextFault>
-    requires short { length text.now ≤ 65536 }
-    requires good { is_ok (writes_of_text file text.now) ≡ true }
-    ensures { Gives result (ops_of_writes labels.now text.now (writes_of_text file text.now)) }
+/// The writes by the ids of their labels, or the refusal of the first with a label that the table
+/// lacks.
+fn ops_in(
+    alloc: Global,
+    labels: &Labels,
+    text: &[u8],
+    writes: &[NamedOp<'_>],
+) -> Result<RuleOps, TextFault>
+    requires { length text.now ≤ 65536 }
+    ensures { Gives result (ops_of labels.now text.now (map named writes.now)) }
 {
     let mut ops = RuleOps::new(alloc);
-    let mut writes = TextWrites::of(file, text);
-    while let Some(answer) = writes.next() {
-        if let Ok(named) = answer {
-            let op = match op_in(labels, text, named) {
-                Ok(op) => op,
-                Err(refusal) => return Err(TextFault::Refused(refusal)),
-            };
-            let Ok(()) = ops.push(op) else {
-                return Err(TextFault::Memory);
-            };
+    if ops.reserve(writes.len()).is_err() {
+        return Err(TextFault::Memory);
+    }
+    for write in writes {
+        match op_in(labels, text, *write) {
+            Ok(op) => {
+                if ops.push(op).is_err() {
+                    return Err(TextFault::Memory);
+                }
+            }
+            Err(refusal) => return Err(TextFault::Refused(refusal)),
         }
     }
     Ok(ops)
@@ -134,9 +181,51 @@ fn compile_text(
     requires { length text.now ≤ 65536 }
     ensures { Gives result (ops_of_writes labels.now text.now (writes_of_text file text.now)) }
 {
-    match first_bad(file, text) {
-        Some(bad) => Err(TextFault::Refused(Refusal::BadLine(bad))),
-        None => ops_in(alloc, labels, file, text),
+    match read_writes(alloc, file, text) {
+        Ok(writes) => ops_in(alloc, labels, text, writes.items()),
+        Err(WritesFault::Bad(bad)) => Err(TextFault::Refused(Refusal::BadLine(bad))),
+        Err(WritesFault::Memory) => Err(TextFault::Memory),
+    }
+}
+
+/// The pairs of the writes that set a rule.
+fn pairs_set(alloc: Global, ops: &[RuleOp]) -> Result<Pairs, AllocError>
+    ensures { IfOk result (λ pairs. pairs ≡ flat_map pair_set ops.now) }
+{
+    let mut pairs = Pairs::new(alloc);
+    for op in ops {
+        if let RuleOp::Set { s, o, m } = *op {
+            pairs.push(Pair { s, o, m })?;
+        }
+    }
+    Ok(pairs)
+}
+
+/// The labels of the writes that add one to a list.
+fn labels_added(alloc: Global, ops: &[RuleOp]) -> Result<Ids, AllocError>
+    ensures { IfOk result (λ labels. labels ≡ flat_map label_added ops.now) }
+{
+    let mut labels = Ids::new(alloc);
+    for op in ops {
+        if let RuleOp::OnlyAdd { l } = *op {
+            labels.push(l)?;
+        }
+    }
+    Ok(labels)
+}
+
+/// What the writes of an accepted text become.
+fn compiled_as(alloc: Global, file: SmackFile, ops: RuleOps) -> Result<Compiled, AllocError>
+    ensures { IfOk result (λ it. it ≡ becomes file ops) }
+{
+    match file {
+        SmackFile::Rule(_) => Ok(Compiled::Rules(ops)),
+        SmackFile::Own(SelfFile::LoadSelf2 | SelfFile::LoadSelf) => {
+            Ok(Compiled::SelfRules(pairs_set(alloc, ops.items())?))
+        }
+        SmackFile::Own(SelfFile::RelabelSelf) => {
+            Ok(Compiled::Relabels(labels_added(alloc, ops.items())?))
+        }
     }
 }
 
@@ -152,14 +241,18 @@ pub fn compile(
 ) -> Result<Compiled, TextFault>
     ensures { Compiles result (compiled labels.now name.now text.now) }
 {
-    let Some(file) = rule_file(name) else {
+    let Some(file) = file_of(name) else {
         return Err(TextFault::Refused(Refusal::NoSuchFile));
     };
     if text.len() > 65_536 {
         return Err(TextFault::Refused(Refusal::TooLong));
     }
-    match compile_text(alloc, labels, file, text) {
-        Ok(ops) => Ok(Compiled::Rules(ops)),
-        Err(fault) => Err(fault),
+    let ops = match compile_text(alloc, labels, read_as(file), text) {
+        Ok(ops) => ops,
+        Err(fault) => return Err(fault),
+    };
+    match compiled_as(alloc, file, ops) {
+        Ok(it) => Ok(it),
+        Err(_) => Err(TextFault::Memory),
     }
 }

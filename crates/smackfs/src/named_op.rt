@@ -1,5 +1,5 @@
 use rule_text::Part;
-use smack_base::Modes;
+use smack_base::{Modes, Sequence};
 
 /// A write to rules or settings as a text spells it: its labels are parts of the text.
 #[derive(Clone, Copy, Debug)]
@@ -40,3 +40,6 @@ pub enum NamedOp<'a> {
         n: u8,
     },
 }
+
+/// Writes as a text spells them, in order.
+pub type NamedOps<'a> = Sequence<NamedOp<'a>>;

@@ -1,19 +1,21 @@
-ghost use Rattle.std.specs.Prelude.{◌≡◌, ◌≤◌, ◌∷◌, [], length, map, take, count_by, MatchOption, IfSome, Err, is_ok, true};
+ghost use Rattle.std.specs.Prelude.{◌≡◌, ◌≤◌, ◌∷◌, [], length, map, take, count_by, MatchOption, IfSome, IfOk, IfErr, All, Ok, Err, is_ok, true};
 ghost use Rattle.std.specs.Option.{option_map};
 ghost use Rattle.text_spec.specs.Texts.{is_feed};
 ghost use Rattle.rule_text.specs.Parts.{placed};
 ghost use Rattle.rule_text.specs.RuleAnswers.{fields_of};
 ghost use Rattle.rule_text.specs.LabelAnswers.{seen_word, IsGoodLabel};
-ghost use Rattle.script_spec.specs.Writes.{NamedRevoke, NamedAdd, NamedAmbient, NamedPtrace, NamedLogging, on_good, set_write, change_write, modes_or_none as modes_of_field, label_in as label_of_text, digit_in as digit_of_word, number_in as number_of_text, line_of, write_answers, writes_of_text};
-ghost use Rattle.smackfs.specs.Named.{named, seen_op, IsGoodOp, Answers};
+ghost use Rattle.file_spec.specs.Writes.{NamedRevoke, NamedAdd, NamedAmbient, NamedPtrace, NamedLogging, on_good, set_write, change_write, modes_or_none as modes_of_field, label_in as label_of_text, digit_in as digit_of_word, number_in as number_of_text, line_of, write_answers, writes_of_text};
+ghost use Rattle.smackfs.specs.Named.{named, seen_op, HasGoodNames, IsGoodOp, Answers};
+ghost use Rattle.smackfs.specs.Gives.{IsBadText};
 ghost use Rattle.smackfs.specs.Left.{left, list_left, IsGoodReader};
 
-use crate::named_op::NamedOp;
+use crate::named_op::{NamedOp, NamedOps};
+use file_spec::RuleFile;
 use rule_text::{
     BadLine, LabelWords, LineFault, Part, RuleForm, RuleLine, RuleLines, SubjectLines, one_word,
 };
-use script_spec::RuleFile;
 use smack_base::{Label, Modes};
+use std::alloc::Global;
 use std::marker::Model;
 
 /// The writes of the list of `onlycap`: first it is cleared, if it was not, and then come the labels.
@@ -44,7 +46,7 @@ pub struct TextWrites<'a> {
 impl<'a> Model for TextWrites<'a> {
     ghost use Rattle.std.specs.Prelude.{List, Result};
     ghost use Rattle.text_spec.specs.declared.BadLine.{BadLine as BadLineOf};
-    ghost use Rattle.script_spec.specs.Writes.{NamedWrite};
+    ghost use Rattle.file_spec.specs.Writes.{NamedWrite};
     ghost use Rattle.smackfs.specs.Left.{left, IsGoodReader};
 
     ghost Value = { List (Result NamedWrite BadLineOf) };
@@ -153,9 +155,9 @@ fn label_in<'a>(text: &'a [u8]) -> Result<Part<'a>, BadLine>
         Ok(word) => word,
         Err(bad) => return Err(bad),
     };
-    match Label::read(word.bytes) {
-        Ok(_) => Ok(word),
-        Err(fault) => Err(BadLine {
+    match Label::fault(word.bytes) {
+        None => Ok(word),
+        Some(fault) => Err(BadLine {
             line: line_at(text, word.at),
             fault: LineFault::Label(fault),
         }),
@@ -300,4 +302,40 @@ pub fn first_bad(file: RuleFile, text: &[u8]) -> Option<BadLine>
         }
     }
     None
+}
+
+/// Why the writes of a text were not read.
+#[derive(Clone, Copy, Debug, PartialEq, Eq)]
+pub enum WritesFault {
+    /// The first bad line of the text.
+    Bad(BadLine),
+    /// Want of memory.
+    Memory,
+}
+
+/// The writes of a text of at most 65,536 bytes, read in one pass, or its first bad line.
+#[tactic(auto, using(crate::proofs::ReadWrites::read_all, crate::proofs::ReadWrites::read_bad))]
+pub fn read_writes<'a>(
+    alloc: Global,
+    file: RuleFile,
+    text: &'a [u8],
+) -> Result<NamedOps<'a>, WritesFault>
+    requires { length text.now ≤ 65536 }
+    ensures writes { IfOk result (λ ops. writes_of_text file text.now ≡ Ok (map named ops)) }
+    ensures good { IfOk result (λ ops. All (λ op. HasGoodNames (named op)) ops) }
+    ensures bad { IfErr result (λ fault. IsBadText fault (writes_of_text file text.now)) }
+{
+    let mut ops = NamedOps::new(alloc);
+    let mut writes = TextWrites::of(file, text);
+    while let Some(answer) = writes.next() {
+        match answer {
+            Ok(op) => {
+                let Ok(()) = ops.push(op) else {
+                    return Err(WritesFault::Memory);
+                };
+            }
+            Err(bad) => return Err(WritesFault::Bad(bad)),
+        }
+    }
+    Ok(ops)
 }

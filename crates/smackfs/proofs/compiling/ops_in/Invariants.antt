@@ -1,11 +1,9 @@
-use Rattle.std.proofs.Common.{length}
-use Rattle.text_spec.specs.RuleTexts.{all_good}
-use Rattle.script_spec.specs.Writes.{writes_of_text}
-use Rattle.smackfs.proofs.Ops.{MakesOn}
+use Rattle.std.proofs.Common.{◌≡◌, drop, map}
+use Rattle.file_spec.specs.Files.{ops_of}
+use Rattle.smackfs.specs.Named.{named}
+use Rattle.smackfs.proofs.Ops.{put_ops}
 use Rattle.smackfs.proofs.compiling.ops_in.Given as goal
 
-abbrev pub invariant-loop-answer : goal.invariant-loop-answer
-invariant-loop-answer l = MakesOn l.fn.labels l.text l.ops (all_good l.writes) (writes_of_text l.fn.file l.text)
-
-abbrev pub decreases-loop-answer : goal.decreases-loop-answer
-decreases-loop-answer l = length l.writes
+abbrev pub invariant-loop-write : goal.invariant-loop-write
+invariant-loop-write l =
+    put_ops l.ops (ops_of l.fn.labels l.text (map named (drop l.write-index l.writes))) ≡ ops_of l.fn.labels l.text (map named l.writes)

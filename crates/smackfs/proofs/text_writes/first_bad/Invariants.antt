@@ -1,6 +1,6 @@
 use Rattle.std.proofs.Common.{length}
 use Rattle.text_spec.specs.RuleTexts.{all_good}
-use Rattle.script_spec.specs.Writes.{writes_of_text}
+use Rattle.file_spec.specs.Writes.{writes_of_text}
 use Rattle.smackfs.proofs.FirstBad.{EndsAs}
 use Rattle.smackfs.proofs.text_writes.first_bad.Given as goal
 
