@@ -1,4 +1,5 @@
 pub mod Words
-pub mod Writes
-pub mod Files
+pub mod Lines
+pub mod Tasks
+pub mod Causes
 pub mod Grammar

@@ -1,6 +1,7 @@
-use Rattle.std.specs.Prelude.{ℕ, ◌+◌, ◌-◌, ◌*◌, Bool, false, ◌&&◌, ◌||◌, not, ◌==◌, if◌then◌else◌, List, [], ◌∷◌, Option, Some, None, is_ok, is_some, codes, length, drop, nat_lt, nat_le}
+use Rattle.std.specs.Prelude.{ℕ, ◌+◌, ◌-◌, ◌*◌, Bool, false, ◌&&◌, ◌||◌, not, ◌==◌, if◌then◌else◌, List, [], ◌∷◌, ◌++◌, Option, Some, None, is_ok, is_some, codes, length, drop, slice_index_or, nat_lt, nat_le}
 use Rattle.std.specs.List.{list_all, list_any}
 use Rattle.std.specs.Map.{lookup}
+use Rattle.std.specs.Option.{option_map, option_or}
 use Rattle.std.specs.Str.{bytes_eq}
 use Rattle.smack_base.specs.declared.cap.Cap.{Cap}
 use Rattle.smack_base.specs.declared.cap.Cap.TheVariants.{MacAdmin, MacOverride, SysPtrace}
@@ -9,13 +10,15 @@ use Rattle.smack_base.specs.Modes.{is_modes}
 use Rattle.smack_base.specs.Paths.{path_of, is_slash, is_name_byte}
 use Rattle.text_spec.specs.Texts.{Placed}
 use Rattle.script_spec.specs.declared.TaskVerb.{TaskVerb}
-use Rattle.script_spec.specs.declared.TaskVerb.TheVariants.{Relabel, Drop}
+use Rattle.script_spec.specs.declared.TaskVerb.TheVariants.{Fork, Exit, Relabel, Drop, Kill, Take, Trace}
 use Rattle.script_spec.specs.declared.TreeVerb.{TreeVerb}
 use Rattle.script_spec.specs.declared.TreeVerb.TheVariants.{Create, Unlink, List as ListNames}
 use Rattle.script_spec.specs.declared.Verb.{Verb}
-use Rattle.script_spec.specs.declared.Verb.TheVariants.{Write, Ask, Task, Tree}
+use Rattle.script_spec.specs.declared.Verb.TheVariants.{Write, Ask, Wait, Task, Tree}
+use Rattle.script_spec.specs.declared.TraceWay.{TraceWay}
+use Rattle.script_spec.specs.declared.TraceWay.TheVariants.{Read, Attach}
 use Rattle.script_spec.specs.declared.WordKind.{WordKind}
-use Rattle.script_spec.specs.declared.WordKind.TheVariants.{Label, Modes, File, Number, Path, Capability}
+use Rattle.script_spec.specs.declared.WordKind.TheVariants.{Label, Modes, File, Number, Path, Capability, TaskName, Signal, Way}
 
 abbrev pub is_digit : ℕ → Bool
 is_digit b = nat_le 48 b && nat_le b 57
@@ -38,36 +41,56 @@ is_decimal (b ∷ bs) = list_all is_digit (b ∷ bs) && not (has_zero_in_front (
 abbrev pub number_of : List ℕ → Option ℕ
 number_of word = if is_decimal word && nat_lt (value_from 0 word) 4294967296 then Some (value_from 0 word) else None
 
--- the verbs by name
-abbrev pub verbs : List (List ℕ × Verb)
-verbs =
-    (codes "write", Write)
-    ∷ (codes "ask", Ask)
-    ∷ (codes "relabel", Task Relabel)
-    ∷ (codes "drop", Task Drop)
-    ∷ (codes "create", Tree Create)
-    ∷ (codes "unlink", Tree Unlink)
-    ∷ (codes "list", Tree ListNames)
+-- the verbs by name, by families
+abbrev pub plain_verbs : List (List ℕ × Verb)
+plain_verbs = (codes "write", Write) ∷ (codes "ask", Ask) ∷ (codes "wait", Wait) ∷ []
+
+abbrev pub task_verbs : List (List ℕ × TaskVerb)
+task_verbs =
+    (codes "fork", Fork)
+    ∷ (codes "exit", Exit)
+    ∷ (codes "relabel", Relabel)
+    ∷ (codes "drop", Drop)
+    ∷ (codes "kill", Kill)
+    ∷ (codes "take", Take)
+    ∷ (codes "trace", Trace)
     ∷ []
 
+abbrev pub tree_verbs : List (List ℕ × TreeVerb)
+tree_verbs = (codes "create", Create) ∷ (codes "unlink", Unlink) ∷ (codes "list", ListNames) ∷ []
+
+abbrev pub plain_verb_of : List ℕ → Option Verb
+plain_verb_of name = lookup (bytes_eq name) plain_verbs
+
+abbrev pub task_verb_of : List ℕ → Option TaskVerb
+task_verb_of name = lookup (bytes_eq name) task_verbs
+
+abbrev pub tree_verb_of : List ℕ → Option TreeVerb
+tree_verb_of name = lookup (bytes_eq name) tree_verbs
+
+-- the verb of a name
 abbrev pub verb_of : List ℕ → Option Verb
-verb_of name = lookup (bytes_eq name) verbs
+verb_of name =
+    option_or (plain_verb_of name)
+    (option_or (option_map (λ verb. Task verb) (task_verb_of name)) (option_map (λ verb. Tree verb) (tree_verb_of name)))
 
 abbrev pub is_one_of : List (List ℕ) → List ℕ → Bool
 is_one_of names name = list_any (bytes_eq name) names
 
 -- the verbs that scripts will have and do not have yet, by families
 abbrev pub unbuilt_task_verbs : List (List ℕ)
-unbuilt_task_verbs = codes "fork" ∷ codes "exit" ∷ codes "exec" ∷ codes "wait" ∷ codes "kill" ∷ codes "take" ∷ codes "trace" ∷ []
+unbuilt_task_verbs = codes "exec" ∷ []
 
 abbrev pub unbuilt_tree_verbs : List (List ℕ)
 unbuilt_tree_verbs = codes "mkdir" ∷ codes "rmdir" ∷ codes "rename" ∷ codes "setattr" ∷ codes "delattr" ∷ codes "getattr" ∷ []
 
 abbrev pub unbuilt_open_verbs : List (List ℕ)
-unbuilt_open_verbs = codes "open" ∷ codes "read" ∷ codes "put" ∷ codes "close" ∷ codes "map" ∷ codes "unmap" ∷ []
+unbuilt_open_verbs =
+    codes "open" ∷ codes "read" ∷ codes "put" ∷ codes "close" ∷ codes "map" ∷ codes "unmap" ∷ codes "lock" ∷ codes "unlock" ∷ []
 
 abbrev pub unbuilt_socket_verbs : List (List ℕ)
-unbuilt_socket_verbs = codes "socket" ∷ codes "sockattr" ∷ codes "send" ∷ codes "connect" ∷ codes "say" ∷ codes "recv" ∷ codes "inject" ∷ codes "shut" ∷ []
+unbuilt_socket_verbs =
+    codes "socket" ∷ codes "sockattr" ∷ codes "send" ∷ codes "connect" ∷ codes "say" ∷ codes "recv" ∷ codes "inject" ∷ codes "shut" ∷ []
 
 abbrev pub unbuilt_message_verbs : List (List ℕ)
 unbuilt_message_verbs = codes "msgnew" ∷ codes "msgsnd" ∷ codes "msgrcv" ∷ codes "msgrm" ∷ []
@@ -78,6 +101,12 @@ unbuilt_semaphore_verbs = codes "semnew" ∷ codes "semop" ∷ codes "semget" �
 abbrev pub unbuilt_segment_verbs : List (List ℕ)
 unbuilt_segment_verbs = codes "shmnew" ∷ codes "shmat" ∷ codes "shmread" ∷ codes "shmwrite" ∷ codes "shmdt" ∷ codes "shmrm" ∷ []
 
+abbrev pub unbuilt_host_verbs : List (List ℕ)
+unbuilt_host_verbs = codes "netlabel" ∷ codes "hostof" ∷ codes "sendto" ∷ codes "hostin" ∷ []
+
+abbrev pub unbuilt_mount_verbs : List (List ℕ)
+unbuilt_mount_verbs = codes "imgnew" ∷ codes "imgdir" ∷ codes "imgfile" ∷ codes "imglabel" ∷ codes "mount" ∷ []
+
 abbrev pub is_unbuilt_verb : List ℕ → Bool
 is_unbuilt_verb name =
     is_one_of unbuilt_task_verbs name
@@ -87,11 +116,25 @@ is_unbuilt_verb name =
     || is_one_of unbuilt_message_verbs name
     || is_one_of unbuilt_semaphore_verbs name
     || is_one_of unbuilt_segment_verbs name
+    || is_one_of unbuilt_host_verbs name
+    || is_one_of unbuilt_mount_verbs name
+
+-- the files that scripts will have and do not have yet
+abbrev pub unbuilt_files : List (List ℕ)
+unbuilt_files = codes "unconfined" ∷ []
+
+abbrev pub is_unbuilt_file : List ℕ → Bool
+is_unbuilt_file name = is_one_of unbuilt_files name
 
 -- the words behind each verb
 abbrev pub task_kinds : TaskVerb → List WordKind
+task_kinds Fork = TaskName ∷ []
+task_kinds Exit = []
 task_kinds Relabel = Label ∷ []
 task_kinds Drop = Capability ∷ []
+task_kinds Kill = TaskName ∷ Signal ∷ []
+task_kinds Take = []
+task_kinds Trace = Way ∷ TaskName ∷ []
 
 abbrev pub tree_kinds : TreeVerb → List WordKind
 tree_kinds Create = Path ∷ []
@@ -101,6 +144,7 @@ tree_kinds ListNames = Path ∷ Number ∷ []
 abbrev pub kinds_of : Verb → List WordKind
 kinds_of Write = File ∷ Number ∷ []
 kinds_of Ask = Label ∷ Label ∷ Modes ∷ []
+kinds_of Wait = TaskName ∷ []
 kinds_of (Task verb) = task_kinds verb
 kinds_of (Tree verb) = tree_kinds verb
 
@@ -115,6 +159,21 @@ capabilities =
 abbrev pub cap_of : List ℕ → Option Cap
 cap_of name = lookup (bytes_eq name) capabilities
 
+-- the ways of tracing by name
+abbrev pub trace_ways : List (List ℕ × TraceWay)
+trace_ways = (codes "read", Read) ∷ (codes "attach", Attach) ∷ []
+
+abbrev pub trace_way_of : List ℕ → Option TraceWay
+trace_way_of name = lookup (bytes_eq name) trace_ways
+
+-- the number of a signal, from 1 to 31
+abbrev pub if_signal : Option ℕ → Option ℕ
+if_signal None = None
+if_signal (Some n) = if nat_le 1 n && nat_le n 31 then Some n else None
+
+abbrev pub signal_of : List ℕ → Option ℕ
+signal_of word = if_signal (number_of word)
+
 -- a letter, a digit or an underscore
 abbrev pub is_task_byte : ℕ → Bool
 is_task_byte b = is_digit b || (nat_le 65 b && nat_le b 90) || (nat_le 97 b && nat_le b 122) || (b == 95)
@@ -127,35 +186,51 @@ is_task_name word = nat_le 1 (length word) && nat_le (length word) 16 && list_al
 abbrev pub is_deep : List ℕ → Bool
 is_deep word = list_any is_slash (drop 1 word)
 
--- the files whose texts are calls on the writing task; no script has them yet
-abbrev pub self_files : List (List ℕ)
-self_files = codes "load-self2" ∷ codes "load-self" ∷ codes "relabel-self" ∷ []
-
-abbrev pub is_self_file : List ℕ → Bool
-is_self_file name = is_one_of self_files name
-
 -- a name of a file: 1 to 32 bytes from ! to ~
 abbrev pub is_file_name : List ℕ → Bool
 is_file_name word = nat_le 1 (length word) && nat_le (length word) 32 && list_all is_name_byte word
 
--- whether a word is of a kind
-abbrev pub is_of_kind : WordKind → List ℕ → Bool
-is_of_kind Label word = is_label word
-is_of_kind Modes word = is_modes word
-is_of_kind File word = is_file_name word
-is_of_kind Number word = is_some (number_of word)
-is_of_kind Path word = is_ok (path_of word)
-is_of_kind Capability word = is_some (cap_of word)
+abbrev pub absent : Placed
+absent = record { at = 0; bytes = [] }
 
--- The number in the line of the first word that is not of its kind, where the first of these words has this number.
-abbrev pub bad_word : ℕ → List WordKind → List Placed → Option ℕ
-bad_word k [] ws = None
-bad_word k (d ∷ ds) [] = None
-bad_word k (d ∷ ds) (w ∷ ws) = if is_of_kind d w.bytes then bad_word (k + 1) ds ws else Some k
+-- the word behind so many others; empty where there is none
+abbrev pub word_at : ℕ → List Placed → Placed
+word_at k words = slice_index_or words k absent
+
+-- a way of the verb before it: behind trace, one of its ways
+abbrev pub is_way : List Placed → List ℕ → Bool
+is_way before word = bytes_eq (word_at 0 before).bytes (codes "trace") && is_some (trace_way_of word)
+
+-- whether a word is of a kind, behind the words from the verb on that stand before it
+abbrev pub is_of_kind : WordKind → List Placed → List ℕ → Bool
+is_of_kind Label before word = is_label word
+is_of_kind Modes before word = is_modes word
+is_of_kind File before word = is_file_name word
+is_of_kind Number before word = is_some (number_of word)
+is_of_kind Path before word = is_ok (path_of word)
+is_of_kind Capability before word = is_some (cap_of word)
+is_of_kind TaskName before word = is_task_name word
+is_of_kind Signal before word = is_some (signal_of word)
+is_of_kind Way before word = is_way before word
+
+-- The number in the line of the first word that is not of its kind, behind the words from the verb on. The verb is the
+-- second word of a line.
+abbrev pub bad_word : List Placed → List WordKind → List Placed → Option ℕ
+bad_word before [] ws = None
+bad_word before (d ∷ ds) [] = None
+bad_word before (d ∷ ds) (w ∷ ws) =
+    if is_of_kind d before w.bytes then bad_word (before ++ w ∷ []) ds ws else Some (length before + 2)
 
 abbrev pub is_deep_path : WordKind → List ℕ → Bool
+is_deep_path Label word = false
+is_deep_path Modes word = false
+is_deep_path File word = false
+is_deep_path Number word = false
 is_deep_path Path word = is_deep word
-is_deep_path _ word = false
+is_deep_path Capability word = false
+is_deep_path TaskName word = false
+is_deep_path Signal word = false
+is_deep_path Way word = false
 
 -- whether one of the words that stand for paths has more than one name
 abbrev pub has_deep_path : List WordKind → List Placed → Bool

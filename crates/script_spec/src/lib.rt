@@ -1,23 +1,32 @@
-//! What scripts mean: the verbs and the kinds of their words, what the text of a smackfs file
-//! becomes, and the grammar. Plain data; the definitions stand in `specs/`.
+//! What scripts mean: the verbs and the kinds of their words, and the grammar. Plain data; the
+//! definitions stand in `specs/`.
 //!
-//! `Words` has the table of verbs and what each kind of word is. `Writes` says which writes the text
-//! of a smackfs file is, its labels by name, or which is its first bad line; `Files` says what it
-//! becomes with a label table, or why it is refused. `Grammar` says which lists of bytes
-//! are a script, and for any other list which line is the first bad one, and why.
+//! `Words` has the tables of verbs and what each kind of word is. `Lines` says what a call of a
+//! script is, with its labels and its rows of a journal. `Tasks` reads off the calls so far which
+//! tasks there are, which of them are live, and which may be waited for. `Causes` says what is wrong
+//! with a line. `Grammar` says which lists of bytes are a script, and for any other list which line
+//! is the first bad one, and why.
 #![tactic(auto)]
 
-use smack_base::{Ids, Pairs, RuleOps};
-use text_spec::BadLine;
 use thiserror::Error;
 
 /// The verbs of calls on the calling task.
 #[derive(Clone, Copy, Debug, PartialEq, Eq)]
 pub enum TaskVerb {
+    /// `fork NAME`: makes a task with a copy of the caller's credentials.
+    Fork,
+    /// `exit`: ends the calling task.
+    Exit,
     /// `relabel LABEL`: takes another label.
     Relabel,
     /// `drop CAP`: gives a capability up.
     Drop,
+    /// `kill NAME SIG`: makes a signal of a task pending.
+    Kill,
+    /// `take`: takes the least pending signal of the caller.
+    Take,
+    /// `trace read NAME`, `trace attach NAME`: reads a task, or attaches to it, by ptrace.
+    Trace,
 }
 
 /// The verbs of calls on the file tree.
@@ -39,13 +48,24 @@ pub enum Verb {
     Write,
     /// `ask LABEL LABEL MODES`: asks whether a subject has modes on an object.
     Ask,
+    /// `wait NAME`: waits for the caller's latest child; no object call.
+    Wait,
     /// A call on the calling task.
     Task(TaskVerb),
     /// A call on the file tree.
     Tree(TreeVerb),
 }
 
-/// What a word behind a verb may be.
+/// How `trace` asks for a task.
+#[derive(Clone, Copy, Debug, PartialEq, Eq)]
+pub enum TraceWay {
+    /// `read`: looks at it.
+    Read,
+    /// `attach`: takes control of it.
+    Attach,
+}
+
+/// What a word behind a verb may be. A kind may look at the words before it.
 #[derive(Clone, Copy, Debug, PartialEq, Eq)]
 pub enum WordKind {
     /// A label.
@@ -60,28 +80,12 @@ pub enum WordKind {
     Path,
     /// The name of a capability.
     Capability,
-}
-
-/// The smackfs files whose text becomes writes to rules and settings (Smack guide, its list of
-/// smackfs files).
-#[derive(Clone, Copy, Debug, PartialEq, Eq)]
-pub enum RuleFile {
-    /// `load2`: lines of subject, object and access.
-    Load2,
-    /// `load`: the same in lines of 53 bytes.
-    Load,
-    /// `change-rule`: lines of subject, object, modes to add and modes to take away.
-    ChangeRule,
-    /// `revoke-subject`: lines of one subject.
-    RevokeSubject,
-    /// `onlycap`: a list of labels, or a dash.
-    Onlycap,
-    /// `ambient`: one label.
-    Ambient,
-    /// `ptrace`: one number from 0 to 2.
-    Ptrace,
-    /// `logging`: one number from 0 to 3.
-    Logging,
+    /// The name of a task: 1 to 16 letters, digits and underscores.
+    TaskName,
+    /// The number of a signal, from 1 to 31.
+    Signal,
+    /// The way of the verb before it: behind `trace`, `read` or `attach`.
+    Way,
 }
 
 /// Why a line is not in the grammar of scripts, the first that applies: `Word { k: 1 }`, `Verb`,
@@ -89,7 +93,8 @@ pub enum RuleFile {
 /// the kinds of the words.
 #[derive(Clone, Copy, Debug, PartialEq, Eq)]
 pub enum Cause {
-    /// The task does not run here: so far only `init` does.
+    /// The task does not run here: it is not `init` and no line above forks it, or it has exited, or
+    /// it or a task that it descends from was waited for.
     Task,
     /// The second word is missing, or it is no verb.
     Verb,
@@ -99,9 +104,10 @@ pub enum Cause {
     Word { k: u32 },
     /// Fewer lines of text follow than the line says.
     Text,
-    /// The task that is named cannot be named here.
+    /// The task that is named cannot be named here: `fork` names one that is already there, or
+    /// `kill` or `trace` names one that is not.
     Name,
-    /// The task that is waited for is not the one to wait for.
+    /// `wait` does not name the latest child of the task that it has not waited for.
     Wait,
     /// The verb, the file or the path is of a kind that this program does not have yet.
     NotBuilt,
@@ -136,32 +142,4 @@ pub enum ScriptFault {
     /// Want of memory.
     #[error("out of memory")]
     Memory,
-}
-
-/// Why a write to a smackfs file is refused, the first in this order.
-#[derive(Clone, Copy, Debug, PartialEq, Eq)]
-pub enum Refusal {
-    /// There is no such file.
-    NoSuchFile,
-    /// The text has more than 65,536 bytes.
-    TooLong,
-    /// The first bad line, and its first fault.
-    BadLine(BadLine),
-    /// No line is bad; this one is the first with a label that the table lacks.
-    UnknownLabel { line: u32 },
-    /// The writer lacks CAP_MAC_ADMIN.
-    NotPrivileged,
-    /// The journal, which has so many rows, has no room.
-    JournalFull { rows: u32 },
-}
-
-/// What the text of a smackfs file becomes.
-#[derive(Debug, Drop)]
-pub enum Compiled {
-    /// A batch of rule writes.
-    Rules(RuleOps),
-    /// Self rules of the writing task.
-    SelfRules(Pairs),
-    /// The labels that the writing task may take.
-    Relabels(Ids),
 }

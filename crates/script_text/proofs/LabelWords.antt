@@ -1,4 +1,4 @@
-use Rattle.std.proofs.Common.{◌≡◌, ◌≤◌, ◌<◌, ◌+◌, ℕ, Bool, true, false, List, [], ◌∷◌, ◌++◌, length, drop, get_or, refl, ◌∙◌, arith, Option, Some, None}
+use Rattle.std.proofs.Common.{◌≡◌, ◌<◌, ◌+◌, ℕ, Bool, true, false, List, [], ◌∷◌, ◌++◌, length, drop, get_or, refl, ◌∙◌, arith, Option, Some, None}
 use Rattle.std.specs.Prelude.{map, ◌&&◌, if◌then◌else◌}
 use Rattle.std.specs.List.{list_all}
 use Rattle.std.proofs.lemmas.List.{drop_more}
@@ -9,21 +9,17 @@ use Rattle.text_spec.specs.Names.{with_name, with_names}
 use Rattle.rule_text.specs.declared.part.Part.{Part}
 use Rattle.rule_text.specs.Parts.{placed}
 use Rattle.script_spec.specs.declared.WordKind.{WordKind}
-use Rattle.script_spec.specs.declared.WordKind.TheVariants.{Label, Modes, File, Number, Path, Capability}
-use Rattle.script_spec.specs.declared.Verb.{Verb}
-use Rattle.script_spec.specs.declared.Verb.TheVariants.{Write, Ask, Task, Tree}
-use Rattle.script_spec.specs.declared.TaskVerb.TheVariants.{Relabel, Drop}
-use Rattle.script_spec.specs.declared.TreeVerb.TheVariants.{Create, Unlink, List as ListNames}
-use Rattle.script_spec.specs.Words.{bad_word, is_of_kind, kinds_of}
-use Rattle.script_spec.specs.Grammar.{label_words, stands_for_label, word_at, absent}
-use Rattle.script_text.specs.HasLabels.{AreLabels}
+use Rattle.script_spec.specs.declared.WordKind.TheVariants.{Label, Modes, File, Number, Path, Capability, TaskName, Signal, Way}
+use Rattle.script_spec.specs.Words.{bad_word, is_of_kind}
+use Rattle.script_spec.specs.Lines.{label_words, stands_for_label}
+use Rattle.script_text.specs.Spelled.{AreLabels}
 use Rattle.script_text.proofs.WriteNames.{with_names-longer}
 
-and_left : (x y : Bool) → (x && y) ≡ true → x ≡ true
+pub and_left : (x y : Bool) → (x && y) ≡ true → x ≡ true
 and_left true y e = refl
 and_left false y e = e
 
-and_right : (x y : Bool) → (x && y) ≡ true → y ≡ true
+pub and_right : (x y : Bool) → (x && y) ≡ true → y ≡ true
 and_right true y e = e
 and_right false y e = cc
 
@@ -102,41 +98,23 @@ word_good : (is : Bool) (n : ℕ) (more : Option ℕ) → (if is then more else 
 word_good true n more e = (refl, e)
 word_good false n more e = cc
 
--- words of their kinds, and any behind them: those that stand for labels are labels
-labels_in_front : (n : ℕ) (ks : List WordKind) (ws more : List Placed) → length ws ≡ length ks → bad_word n ks ws ≡ None
-    → list_all is_label (label_words ks (ws ++ more)) ≡ true
-labels_in_front n [] [] [] many e = refl
-labels_in_front n [] [] (m ∷ ms) many e = refl
-labels_in_front n [] (w ∷ ws) more many e = absurd (omega (arith, many))
-labels_in_front n (k ∷ ks) [] more many e = absurd (omega (arith, many))
-labels_in_front n (Label ∷ ks) (w ∷ ws) more many e =
-    let good = word_good (is_label w.bytes) n (bad_word (n + 1) ks ws) e in
-    rw (good.0) (labels_in_front (n + 1) ks ws more (omega (arith, many)) (good.1))
-labels_in_front n (Modes ∷ ks) (w ∷ ws) more many e = labels_in_front (n + 1) ks ws more (omega (arith, many)) (word_good (is_of_kind Modes w.bytes) n (bad_word (n + 1) ks ws) e).1
-labels_in_front n (File ∷ ks) (w ∷ ws) more many e = labels_in_front (n + 1) ks ws more (omega (arith, many)) (word_good (is_of_kind File w.bytes) n (bad_word (n + 1) ks ws) e).1
-labels_in_front n (Number ∷ ks) (w ∷ ws) more many e = labels_in_front (n + 1) ks ws more (omega (arith, many)) (word_good (is_of_kind Number w.bytes) n (bad_word (n + 1) ks ws) e).1
-labels_in_front n (Path ∷ ks) (w ∷ ws) more many e = labels_in_front (n + 1) ks ws more (omega (arith, many)) (word_good (is_of_kind Path w.bytes) n (bad_word (n + 1) ks ws) e).1
-labels_in_front n (Capability ∷ ks) (w ∷ ws) more many e = labels_in_front (n + 1) ks ws more (omega (arith, many)) (word_good (is_of_kind Capability w.bytes) n (bad_word (n + 1) ks ws) e).1
+kind_good : (before : List Placed) (k : WordKind) (w : Placed) (ks : List WordKind) (ws : List Placed) → bad_word before (k ∷ ks) (w ∷ ws) ≡ None
+    → (is_of_kind k before w.bytes ≡ true) × (bad_word (before ++ w ∷ []) ks ws ≡ None)
+kind_good before k w ks ws e = word_good (is_of_kind k before w.bytes) (length before + 2) (bad_word (before ++ w ∷ []) ks ws) e
 
--- no verb has more than three words behind it
-few_kinds : (verb : Verb) → length (kinds_of verb) ≤ 3
-few_kinds Write = omega arith
-few_kinds Ask = omega arith
-few_kinds (Task Relabel) = omega arith
-few_kinds (Task Drop) = omega arith
-few_kinds (Tree Create) = omega arith
-few_kinds (Tree Unlink) = omega arith
-few_kinds (Tree ListNames) = omega arith
-
-first_three : (ks : List WordKind) (ws : List Placed) → length ks ≤ 3 → length ws ≡ length ks → bad_word 3 ks ws ≡ None
-    → AreLabels (label_words ks (word_at 0 ws ∷ word_at 1 ws ∷ word_at 2 ws ∷ []))
-first_three ks [] few many e = labels_in_front 3 ks [] (absent ∷ absent ∷ absent ∷ []) many e
-first_three ks (a ∷ []) few many e = labels_in_front 3 ks (a ∷ []) (absent ∷ absent ∷ []) many e
-first_three ks (a ∷ b ∷ []) few many e = labels_in_front 3 ks (a ∷ b ∷ []) (absent ∷ []) many e
-first_three ks (a ∷ b ∷ c ∷ []) few many e = labels_in_front 3 ks (a ∷ b ∷ c ∷ []) [] many e
-first_three ks (a ∷ b ∷ c ∷ d ∷ ws) few many e = absurd (omega (arith, few, many))
-
--- the words of a call that stand for labels are labels
-pub word_labels : (verb : Verb) (ws : List Placed) → length ws ≡ length (kinds_of verb) → bad_word 3 (kinds_of verb) ws ≡ None
-    → AreLabels (label_words (kinds_of verb) (word_at 0 ws ∷ word_at 1 ws ∷ word_at 2 ws ∷ []))
-word_labels verb ws many e = first_three (kinds_of verb) ws (few_kinds verb) many e
+-- of words of their kinds, those that stand for labels are labels
+pub label_words_good : (before : List Placed) (ks : List WordKind) (ws : List Placed) → bad_word before ks ws ≡ None
+    → AreLabels (label_words ks ws)
+label_words_good before [] ws e = refl
+label_words_good before (k ∷ ks) [] e = refl
+label_words_good before (Label ∷ ks) (w ∷ ws) e =
+    let good = kind_good before Label w ks ws e in
+    rw (good.0) (label_words_good (before ++ w ∷ []) ks ws (good.1))
+label_words_good before (Modes ∷ ks) (w ∷ ws) e = label_words_good (before ++ w ∷ []) ks ws (kind_good before Modes w ks ws e).1
+label_words_good before (File ∷ ks) (w ∷ ws) e = label_words_good (before ++ w ∷ []) ks ws (kind_good before File w ks ws e).1
+label_words_good before (Number ∷ ks) (w ∷ ws) e = label_words_good (before ++ w ∷ []) ks ws (kind_good before Number w ks ws e).1
+label_words_good before (Path ∷ ks) (w ∷ ws) e = label_words_good (before ++ w ∷ []) ks ws (kind_good before Path w ks ws e).1
+label_words_good before (Capability ∷ ks) (w ∷ ws) e = label_words_good (before ++ w ∷ []) ks ws (kind_good before Capability w ks ws e).1
+label_words_good before (TaskName ∷ ks) (w ∷ ws) e = label_words_good (before ++ w ∷ []) ks ws (kind_good before TaskName w ks ws e).1
+label_words_good before (Signal ∷ ks) (w ∷ ws) e = label_words_good (before ++ w ∷ []) ks ws (kind_good before Signal w ks ws e).1
+label_words_good before (Way ∷ ks) (w ∷ ws) e = label_words_good (before ++ w ∷ []) ks ws (kind_good before Way w ks ws e).1

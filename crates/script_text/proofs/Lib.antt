@@ -1,7 +1,11 @@
 pub mod Numbers
-pub mod LineCauses
 pub mod WriteNames
+pub mod TaskLists
+pub mod WordKinds
 pub mod LabelWords
-pub mod WriteCounts
+pub mod WordLists
+pub mod LineCauses
 pub mod Spelling
+pub mod Adding
 pub mod ReadingOn
+pub mod TaskSteps

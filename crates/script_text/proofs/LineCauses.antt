@@ -1,66 +1,118 @@
-use Rattle.std.proofs.Common.{◌≡◌, ℕ, Bool, true, false, List, [], ◌∷◌, length, refl, Some, None, not, nat_eq, if◌then◌else◌}
-use Rattle.std.specs.Prelude.{Option}
+use Rattle.std.proofs.Common.{◌≡◌, ◌≤◌, ℕ, Bool, true, false, not, nat_eq, if◌then◌else◌, List, [], ◌∷◌, length, drop, refl, sym, ap, ◌∙◌, arith, Option, Some, None}
+use Rattle.std.specs.Prelude.{map}
 use Rattle.std.specs.Option.{option_map}
 use Rattle.std.proofs.lemmas.Bool.{eqb-true, not-false}
 use Rattle.text_spec.specs.Texts.{Placed}
+use Rattle.rule_text.specs.declared.part.Part.{Part}
+use Rattle.rule_text.specs.Parts.{placed}
 use Rattle.script_spec.specs.declared.Cause.{Cause}
-use Rattle.script_spec.specs.declared.Cause.TheVariants.{Task, Verb as NoVerb, Words, Word, Text, NotBuilt}
+use Rattle.script_spec.specs.declared.Cause.TheVariants.{Task, Verb as NoVerb, Words, Word, Text, Name, Wait, NotBuilt}
 use Rattle.script_spec.specs.declared.Verb.{Verb}
-use Rattle.script_spec.specs.Words.{verb_of, kinds_of, bad_word, has_deep_path, is_task_name, is_unbuilt_verb}
-use Rattle.script_spec.specs.Grammar.{cause_if, first_cause, names_self_file, is_first_task, words_cause, verb_cause, behind_task, line_cause}
+use Rattle.script_spec.specs.Words.{verb_of, kinds_of, bad_word, has_deep_path, is_task_name, word_at}
+use Rattle.script_spec.specs.Tasks.{Tasks, is_live, pid_of}
+use Rattle.script_spec.specs.Causes.{cause_if, first_cause, names_unbuilt_file, is_name_good, is_wait_good, words_cause, behind_task, line_cause}
+use Rattle.script_text.specs.Spelled.{HasVerb}
 
 some_none : (c : Cause) → Some c ≡ None → ⊥
 some_none c e = cc
 
 -- the causes of the words behind a verb, over plain answers
-abbrev causes_of : Bool → Bool → Option ℕ → Bool → Bool → Bool → Option Cause
-causes_of file count word deep text task =
+abbrev causes_of : Bool → Bool → Option ℕ → Bool → Bool → Bool → Bool → Bool → Option Cause
+causes_of file count word deep text live name wait =
     first_cause
     (cause_if file NotBuilt ∷ cause_if count Words ∷ option_map (λ k. Word k) word ∷ cause_if deep NotBuilt ∷ cause_if text Text
-    ∷ cause_if task Task ∷ [])
+    ∷ cause_if live Task ∷ cause_if name Name ∷ cause_if wait Wait ∷ [])
 
-no_cause : (file count : Bool) (word : Option ℕ) (deep text task : Bool) → causes_of file count word deep text task ≡ None
-    → (count ≡ false) × (word ≡ None)
-no_cause true count word deep text task e = absurd (some_none NotBuilt e)
-no_cause false true word deep text task e = absurd (some_none Words e)
-no_cause false false (Some k) deep text task e = absurd (some_none (Word k) e)
-no_cause false false None deep text task e = (refl, refl)
+-- no cause applies
+record NoCause (count : Bool) (word : Option ℕ) (text live wait : Bool) : Type 0 where
+  pub is_count : count ≡ false
+  pub is_word : word ≡ None
+  pub is_text : text ≡ false
+  pub is_live : live ≡ false
+  pub is_wait : wait ≡ false
 
-missing : (file count : Bool) (word : Option ℕ) (deep task : Bool) → causes_of file count word deep true task ≡ None → ⊥
-missing true count word deep task e = some_none NotBuilt e
-missing false true word deep task e = some_none Words e
-missing false false (Some k) deep task e = some_none (Word k) e
-missing false false None true task e = some_none NotBuilt e
-missing false false None false task e = some_none Text e
+no_cause : (file count : Bool) (word : Option ℕ) (deep text live name wait : Bool) → causes_of file count word deep text live name wait ≡ None
+    → NoCause count word text live wait
+no_cause true count word deep text live name wait e = absurd (some_none NotBuilt e)
+no_cause false true word deep text live name wait e = absurd (some_none Words e)
+no_cause false false (Some k) deep text live name wait e = absurd (some_none (Word k) e)
+no_cause false false None true text live name wait e = absurd (some_none NotBuilt e)
+no_cause false false None false true live name wait e = absurd (some_none Text e)
+no_cause false false None false false true name wait e = absurd (some_none Task e)
+no_cause false false None false false false true wait e = absurd (some_none Name e)
+no_cause false false None false false false false true e = absurd (some_none Wait e)
+no_cause false false None false false false false false e = record { is_count = refl; is_word = refl; is_text = refl; is_live = refl; is_wait = refl }
 
-not_unless : (b : Bool) → (if b then Some NotBuilt else Some NoVerb) ≡ None → ⊥
-not_unless true e = some_none NotBuilt e
-not_unless false e = some_none NoVerb e
+-- nothing is wrong with the words behind a verb
+pub record GoodWords (tasks : Tasks) (task : List ℕ) (name : Placed) (verb : Verb) (ws : List Placed) (text : Bool) : Type 0 where
+  pub many : length ws ≡ length (kinds_of verb)
+  pub kinds : bad_word (name ∷ []) (kinds_of verb) ws ≡ None
+  pub there : text ≡ true
+  pub live : is_live tasks task ≡ true
+  pub wait : is_wait_good tasks (pid_of tasks task) verb ws ≡ true
 
--- the line of a call has a verb behind its task
-pub behind_good : (is : Bool) (behind : Option Cause) → (if is then behind else Some (Word 1)) ≡ None → behind ≡ None
-behind_good true behind e = e
-behind_good false behind e = absurd (some_none (Word 1) e)
+words_good : (tasks : Tasks) (task : List ℕ) (name : Placed) (verb : Verb) (ws : List Placed) (text : Bool)
+    → words_cause tasks task name verb ws text ≡ None → GoodWords tasks task name verb ws text
+words_good tasks task name verb ws text e =
+    let none = no_cause (names_unbuilt_file verb ws) (not (nat_eq (length ws) (length (kinds_of verb)))) (bad_word (name ∷ []) (kinds_of verb) ws)
+    (has_deep_path (kinds_of verb) ws) (not text) (not (is_live tasks task)) (not (is_name_good tasks verb ws))
+    (not (is_wait_good tasks (pid_of tasks task) verb ws)) e in
+    record {
+      many = eqb-true (length ws) (length (kinds_of verb)) (not-false _ none.is_count);
+      kinds = none.is_word;
+      there = not-false _ none.is_text;
+      live = not-false _ none.is_live;
+      wait = not-false _ none.is_wait;
+    }
 
--- words without a cause are as many as their kinds, and each is of its kind
-pub words_good : (task : List ℕ) (verb : Verb) (ws : List Placed) (text : Bool) → words_cause task verb ws text ≡ None
-    → (length ws ≡ length (kinds_of verb)) × (bad_word 3 (kinds_of verb) ws ≡ None)
-words_good task verb ws text e =
-    let none = no_cause (names_self_file verb ws) (not (nat_eq (length ws) (length (kinds_of verb)))) (bad_word 3 (kinds_of verb) ws)
-    (has_deep_path (kinds_of verb) ws) (not text) (not (is_first_task task)) e in
-    (eqb-true (length ws) (length (kinds_of verb)) (not-false _ (none.0)), none.1)
+-- a line behind its task and its verb
+line_behind : (tasks : Tasks) (W : List Placed) (text : Bool) (verb : Verb) → is_task_name (word_at 0 W).bytes ≡ true → 2 ≤ length W
+    → Some verb ≡ verb_of (word_at 1 W).bytes
+    → line_cause tasks W text ≡ words_cause tasks (word_at 0 W).bytes (word_at 1 W) verb (drop 2 W) text
+line_behind tasks [] text verb named many is = absurd (omega (arith, many))
+line_behind tasks (t ∷ []) text verb named many is = absurd (omega (arith, many))
+line_behind tasks (t ∷ v ∷ ws) text verb named many is = rw (named, ← is) refl
 
-no_verb_missing : (task name : List ℕ) (verb : Option Verb) (ws : List Placed) → verb_cause task name verb ws false ≡ None → ⊥
-no_verb_missing task name None ws e = not_unless (is_unbuilt_verb name) e
-no_verb_missing task name (Some verb) ws e =
-    missing (names_self_file verb ws) (not (nat_eq (length ws) (length (kinds_of verb)))) (bad_word 3 (kinds_of verb) ws)
-    (has_deep_path (kinds_of verb) ws) (not (is_first_task task)) e
-
--- a line whose text is not all there has a cause
-pub text_is_missing : (ws : List Placed) → line_cause ws false ≡ None → ⊥
-text_is_missing [] e = some_none (Word 1) e
-text_is_missing (t ∷ ws) e = by ws (behind_good (is_task_name t.bytes) (behind_task t.bytes ws false) e)
+-- where nothing is wrong with a line, the words behind its verb are good
+pub line_good : (tasks : Tasks) (W : List Placed) (text : Bool) (verb : Verb) → HasVerb tasks W text verb
+    → (2 ≤ length W) × GoodWords tasks (word_at 0 W).bytes (word_at 1 W) verb (drop 2 W) text
+line_good tasks [] text verb has = absurd (some_none (Word 1) has.good)
+line_good tasks (t ∷ ws) text verb has = by (is_task_name t.bytes) ws refl has.good has.is
   where
-    by : (ws : List Placed) → behind_task t.bytes ws false ≡ None → ⊥
-    by [] e = some_none NoVerb e
-    by (v ∷ ws) e = no_verb_missing t.bytes v.bytes (verb_of v.bytes) ws e
+    by : (b : Bool) (ws : List Placed) → is_task_name t.bytes ≡ b → (if b then behind_task tasks t.bytes ws text else Some (Word 1)) ≡ None
+        → verb_of (word_at 1 (t ∷ ws)).bytes ≡ Some verb → (2 ≤ length (t ∷ ws)) × GoodWords tasks t.bytes (word_at 1 (t ∷ ws)) verb (drop 2 (t ∷ ws)) text
+    by false ws named good is = absurd (some_none (Word 1) good)
+    by true [] named good is = absurd (some_none NoVerb good)
+    by true (v ∷ vs) named good is = (omega arith, words_good tasks t.bytes v verb vs text (rw is at good))
+
+-- a line of these words, by what the words behind its task are
+words_are : (tasks : Tasks) (ws : List Part) (text : Bool) (verb : Verb) (behind : List Part) (task name : Part) → placed task ≡ word_at 0 (map placed ws)
+    → placed name ≡ word_at 1 (map placed ws) → behind ≡ drop 1 ws → is_task_name task.bytes.now ≡ true → 2 ≤ length ws
+    → Some verb ≡ verb_of name.bytes.now
+    → line_cause tasks (map placed ws) text
+    ≡ words_cause tasks task.bytes.now (word_at 0 (map placed behind)) verb (drop 1 (map placed behind)) text
+words_are tasks [] text verb behind task name is is1 cut named many by = absurd (omega (arith, many))
+words_are tasks (t ∷ []) text verb behind task name is is1 cut named many by = absurd (omega (arith, many))
+words_are tasks (t ∷ v ∷ vs) text verb behind task name is is1 cut named many by =
+    let bytes : task.bytes.now ≡ t.bytes.now = ap (λ (p : Placed). p.bytes) is in
+    let verb_bytes : name.bytes.now ≡ v.bytes.now = ap (λ (p : Placed). p.bytes) is1 in
+    rw (cut, bytes)
+    (rw (ap is_task_name (sym bytes) ∙ named, ap verb_of (sym verb_bytes) ∙ sym by) refl)
+
+pub line_is_bad : (tasks : Tasks) (ws : List Part) (text : Bool) (verb : Verb) (behind : List Part) (cause : Cause) (task name : Part)
+    → placed task ≡ word_at 0 (map placed ws) → placed name ≡ word_at 1 (map placed ws) → behind ≡ drop 1 ws → is_task_name task.bytes.now ≡ true
+    → 2 ≤ length ws → Some verb ≡ verb_of name.bytes.now
+    → words_cause tasks task.bytes.now (word_at 0 (map placed behind)) verb (drop 1 (map placed behind)) text ≡ Some cause
+    → line_cause tasks (map placed ws) text ≡ Some cause
+line_is_bad tasks ws text verb behind cause task name is is1 cut named many by bad =
+    words_are tasks ws text verb behind task name is is1 cut named many by ∙ bad
+
+pub line_has_verb : (tasks : Tasks) (ws : List Part) (text : Bool) (verb : Verb) (behind : List Part) (task name : Part)
+    → placed task ≡ word_at 0 (map placed ws) → placed name ≡ word_at 1 (map placed ws) → behind ≡ drop 1 ws → is_task_name task.bytes.now ≡ true
+    → 2 ≤ length ws → Some verb ≡ verb_of name.bytes.now
+    → words_cause tasks task.bytes.now (word_at 0 (map placed behind)) verb (drop 1 (map placed behind)) text ≡ None
+    → HasVerb tasks (map placed ws) text verb
+line_has_verb tasks ws text verb behind task name is is1 cut named many by good = record {
+  good = words_are tasks ws text verb behind task name is is1 cut named many by ∙ good;
+  is = ap (λ (p : Placed). verb_of p.bytes) (sym is1) ∙ sym by;
+}

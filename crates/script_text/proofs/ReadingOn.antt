@@ -1,61 +1,35 @@
-use Rattle.std.proofs.Common.{◌≡◌, ◌≤◌, ◌<◌, ◌+◌, ◌-◌, ℕ, zero, suc, false, List, [], ◌∷◌, ◌++◌, length, drop, refl, sym, ap, ◌∙◌, arith, append_assoc, Ok, Err, nat_eq, add-zero, length-append}
-use Rattle.std.specs.Prelude.{Option, Result}
-use Rattle.std.specs.List.{flat_map}
-use Rattle.std.proofs.lemmas.List.{append-nil, length-drop}
-use Rattle.std.proofs.lemmas.Bool.{ne_eqb}
-use Rattle.std.proofs.lemmas.Grind.{fold-append, flat_map-append}
-use Rattle.text_spec.specs.Texts.{TextLine, whole_line, whole_lines, is_space}
+use Rattle.std.proofs.Common.{◌≡◌, ◌≤◌, ◌<◌, ◌+◌, ◌-◌, ℕ, suc, false, List, [], ◌∷◌, ◌++◌, length, refl, sym, ap, ◌∙◌, arith, length-append}
+use Rattle.std.specs.Prelude.{Option, Result, map}
+use Rattle.std.proofs.lemmas.List.{length-drop}
+use Rattle.text_spec.specs.Texts.{whole_line, whole_lines, is_space}
+use Rattle.text_spec.specs.Names.{predefined}
 use Rattle.rule_text.proofs.WholeLines.{whole_of_lines}
-use Rattle.text_spec.specs.Names.{with_name, with_names, predefined}
 use Rattle.rule_text.specs.declared.part.Part.{Part}
 use Rattle.rule_text.specs.Parts.{lines_of, words_of, end_of, first_line, as_line}
 use Rattle.script_spec.specs.declared.ScriptFault.{ScriptFault}
 use Rattle.script_spec.specs.declared.ScriptFault.TheVariants.{Malformed, TooLarge, Memory}
-use Rattle.script_spec.specs.Grammar.{ScriptLine, Item, Known, item_of, items, is_skipped, text_count, item_fault, known_call, known_after, calls_of, script_of, lines_fault, put_first, unless_fault, table_of, labels_of, most_lines, most_rows, most_labels}
+use Rattle.script_spec.specs.Lines.{ScriptLine, rows_in, table_of}
+use Rattle.script_spec.specs.Tasks.{tasks_of}
+use Rattle.script_spec.specs.Grammar.{Item, item_of, items, is_skipped, text_count, item_fault, call_of, calls_of, script_of, lines_fault, unless_fault, most_lines}
+use Rattle.script_laws.proofs.Items.{items_pass}
 use Rattle.script_text.specs.declared.reading.Draft.{Draft}
 use Rattle.script_text.specs.declared.reading.Place.{Place}
 use Rattle.script_text.specs.declared.reading.Found.{Found}
-use Rattle.script_text.specs.Scripts.{Fails, HasFault, calls_seen, known_of, item_found, IsItemRead}
-
--- calls that stand before those that are read
-abbrev pub put_all : List ScriptLine → Result (List ScriptLine) ScriptFault → Result (List ScriptLine) ScriptFault
-put_all front (Ok lines) = Ok (front ++ lines)
-put_all front (Err e) = Err e
+use Rattle.script_text.specs.Lines.{call_seen}
+use Rattle.script_text.specs.TaskTables.{IsFirst}
+use Rattle.script_text.specs.Scripts.{Fails, HasFault, calls_seen, item_found, IsDraft, IsItemRead}
+use Rattle.script_text.proofs.TaskSteps.{tasks_first, table_first}
 
 -- what is read so far, and what is left, make the whole
 pub record ReadsOn (d : Draft) (place : Place) (text : Part) : Type 0 where
   pub reads :
-      put_all (calls_seen d) (calls_of (lines_fault (lines_of text)) (known_of d) (items place.line 0 (lines_of place.rest)))
-      ≡ script_of (lines_of text)
-  pub labels : d.labels ≡ table_of (calls_seen d)
-  pub limit : length d.labels ≤ most_labels
-  pub rows : d.rows ≤ most_rows
+      calls_of (lines_fault (lines_of text)) (calls_seen d) (items place.line 0 (lines_of place.rest)) ≡ script_of (lines_of text)
+  pub draft : IsDraft d
   pub ends : end_of place.rest ≡ end_of text
   pub fewer : place.line + length place.rest.bytes.now ≤ 1 + length text.bytes.now
   pub total : place.line + length (lines_of place.rest) ≡ 1 + length (lines_of text)
-  pub count : length d.lines.items + length place.rest.bytes.now ≤ length text.bytes.now
   pub behind : length d.lines.items < place.line
   pub few : length d.lines.items ≤ most_lines
-
--- lines of text are passed over
-pub items_pass : (line n : ℕ) (ls : List TextLine) → items line n ls ≡ items (line + n) 0 (drop n ls)
-items_pass line zero ls = ap (λ (k : ℕ). items k 0 ls) (sym (add-zero line))
-items_pass line (suc n) [] = refl
-items_pass line (suc n) (l ∷ ls) =
-    let some : nat_eq (suc n) 0 ≡ false = ne_eqb (suc n) 0 (λ e. omega (arith, e)) in
-    let less : suc n - 1 ≡ n = omega arith in
-    let more : line + 1 + n ≡ line + suc n = omega arith in
-    rw (some, less) (items_pass (line + 1) n ls ∙ ap (λ (k : ℕ). items k 0 (drop n ls)) more)
-
-put_one : (front : List ScriptLine) (x : ScriptLine) (read : Result (List ScriptLine) ScriptFault) → put_all (front ++ x ∷ []) read ≡ put_all front (put_first x read)
-put_one front x (Ok lines) = ap (λ (t : List ScriptLine). Ok t) (append_assoc front (x ∷ []) lines)
-put_one front x (Err e) = refl
-
--- the table of one more call
-pub table_more : (lines : List ScriptLine) (x : ScriptLine) → table_of (lines ++ x ∷ []) ≡ with_names (table_of lines) (labels_of x)
-table_more lines x =
-    ap (λ (t : List (List ℕ)). with_names predefined t) (flat_map-append labels_of lines (x ∷ []) ∙ ap (λ (t : List (List ℕ)). flat_map labels_of lines ++ t) (append-nil (labels_of x)))
-    ∙ fold-append with_name predefined (flat_map labels_of lines) (labels_of x)
 
 -- the place behind the first line of a text
 behind_line : (text line after : Part) → lines_of text ≡ first_line text line ∷ lines_of after → line.at ≡ text.at → end_of after ≡ end_of text
@@ -84,22 +58,22 @@ items_cut : (text : Part) (f : Found) → lines_of text ≡ first_line text f.li
 items_cut text f cut begins ends called =
     rw (cut, called) (ap (λ (i : Item). i ∷ items (f.number + 1) (text_count (item_found f).words) (lines_of f.after)) (item_is text f cut begins ends))
 
-fails_as : (e : ScriptFault) (fault : Option ScriptFault) (x : ScriptLine) (front : List ScriptLine) (more whole : Result (List ScriptLine) ScriptFault)
-    → HasFault fault e → put_all front (unless_fault fault x more) ≡ whole → Fails e whole
-fails_as Memory fault x front more whole has is = tt
-fails_as (Malformed line cause) fault x front more whole has is = sym is ∙ rw has refl
-fails_as (TooLarge what) fault x front more whole has is = sym is ∙ rw has refl
+fails_as : (e : ScriptFault) (fault : Option ScriptFault) (more whole : Result (List ScriptLine) ScriptFault)
+    → HasFault fault e → unless_fault fault more ≡ whole → Fails e whole
+fails_as Memory fault more whole has is = tt
+fails_as (Malformed line cause) fault more whole has is = sym is ∙ rw has refl
+fails_as (TooLarge what) fault more whole has is = sym is ∙ rw has refl
 
 -- an item with a fault ends the reading
 pub item_fails : (d : Draft) (place : Place) (text line after : Part) (e : ScriptFault) → ReadsOn d place text
     → lines_of place.rest ≡ first_line place.rest line ∷ lines_of after → line.at ≡ place.rest.at → end_of after ≡ end_of place.rest
     → is_skipped (as_line line) ≡ false
-    → HasFault (item_fault (known_of d) (item_found (record { number = place.line; line = line; after = after }))) e
+    → HasFault (item_fault (calls_seen d) (item_found (record { number = place.line; line = line; after = after }))) e
     → Fails e (script_of (lines_of text))
 item_fails d place text line after e on cut begins ends called has =
     let f : Found = record { number = place.line; line = line; after = after } in
     let items_are = items_cut place.rest f cut begins ends called in
-    fails_as e _ _ (calls_seen d) _ _ has (rw items_are at on.reads)
+    fails_as e _ _ _ has (rw items_are at on.reads)
 
 -- no more calls than lines so far
 few_more : (calls calls' line : ℕ) → calls < line → line ≤ most_lines → calls' ≡ calls + 1 → calls' ≤ most_lines
@@ -113,28 +87,46 @@ pub item_read : (d d' : Draft) (place place' : Place) (text line after : Part) �
 item_read d d' place place' text line after on cut begins ends falls called read =
     let f : Found = record { number = place.line; line = line; after = after } in
     let i = item_found f in
-    let known = known_of d in
-    let x = known_call known i in
+    let above = calls_seen d in
     let count = text_count i.words in
     let behind = lines_fault (lines_of text) in
-    let left = calls_of behind (known_after known i) (items (place.line + 1) count (lines_of after)) in
+    let next = read.behind in
     let items_are = items_cut place.rest f cut begins ends called in
     let passed : items place'.line 0 (lines_of place'.rest) ≡ items (place.line + 1) count (lines_of after) =
-    rw (read.line, read.rest) (sym (items_pass (place.line + 1) count (lines_of after))) in
-    let one : calls_of behind known (items place.line 0 (lines_of place.rest)) ≡ put_first x left = rw (items_are, read.good) refl in
+    rw (next.line, next.rest) (sym (items_pass (place.line + 1) count (lines_of after))) in
+    let one : calls_of behind above (items place.line 0 (lines_of place.rest))
+    ≡ calls_of behind (above ++ call_of above i ∷ []) (items (place.line + 1) count (lines_of after)) = rw (items_are, read.good) refl in
     let lines : length (lines_of place.rest) ≡ suc (length (lines_of after)) = ap length cut in
-    let rest : length (lines_of place'.rest) ≡ length (lines_of after) - count = ap length read.rest ∙ length-drop count (lines_of after) in
+    let rest : length (lines_of place'.rest) ≡ length (lines_of after) - count = ap length next.rest ∙ length-drop count (lines_of after) in
     record {
-      reads = rw (read.calls, read.known, passed) (put_one (calls_seen d) x left ∙ ap (put_all (calls_seen d)) (sym one) ∙ on.reads);
-      labels =
-          ap (λ (k : Known). k.labels) read.known ∙ ap (λ (t : List (List ℕ)). with_names t (labels_of x)) on.labels
-          ∙ sym (table_more (calls_seen d) x) ∙ ap table_of (sym read.calls);
-      limit = read.limit;
-      rows = read.most;
-      ends = read.ends ∙ ends ∙ on.ends;
-      fewer = omega (arith, read.fewer, falls, on.fewer);
-      total = omega (arith, on.total, lines, rest, read.line, read.there);
-      count = omega (arith, read.count, read.fewer, falls, on.count);
-      behind = omega (arith, read.count, read.line, on.behind);
+      reads = rw (read.calls, passed) (sym one ∙ on.reads);
+      draft = read.draft;
+      ends = next.ends ∙ ends ∙ on.ends;
+      fewer = omega (arith, next.fewer, falls, on.fewer);
+      total = omega (arith, on.total, lines, rest, next.line, next.there);
+      behind = omega (arith, read.count, next.line, on.behind);
       few = few_more _ _ place.line on.behind read.within read.count;
+    }
+
+-- nothing is read yet
+pub reads_first : (d : Draft) (text : Part) → d.lines.items ≡ [] → d.rows ≡ 0 → d.labels ≡ predefined → IsFirst d.tasks
+    → ReadsOn d (record { rest = text; line = 1 }) text
+reads_first d text lines rows labels first =
+    let none : calls_seen d ≡ [] = ap (map call_seen) lines in
+    record {
+      reads = rw none refl;
+      draft = record {
+        tasks = tasks_first d.tasks first ∙ ap tasks_of (sym none);
+        rows = rows ∙ ap rows_in (sym none);
+        labels = labels ∙ ap table_of (sym none);
+        waits = rw none tt;
+        table = table_first d.tasks first;
+        most_rows = omega (arith, rows);
+        most_labels = rw labels (omega arith);
+      };
+      ends = refl;
+      fewer = omega arith;
+      total = refl;
+      behind = rw lines (omega arith);
+      few = rw lines (omega arith);
     }

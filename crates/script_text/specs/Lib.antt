@@ -1,5 +1,6 @@
 pub mod Lines
-pub mod HasLabels
+pub mod Spelled
+pub mod TaskTables
 pub mod Scripts
 pub mod IsScript
-pub mod Counts
+pub mod WrittenTexts

@@ -1,28 +1,34 @@
-ghost use Rattle.std.specs.Prelude.{◌≡◌, ◌<◌, ◌≤◌, ◌∷◌, [], length, map, true, is_ok, Err, OnOk};
+ghost use Rattle.std.specs.Prelude.{◌≡◌, ◌<◌, ◌≤◌, ◌∷◌, [], length, map, true, Err, OnOk};
 ghost use Rattle.smack_base.specs.Labels.{is_label};
 ghost use Rattle.text_spec.specs.Names.{with_name, with_names};
 ghost use Rattle.rule_text.specs.Parts.{placed};
-ghost use Rattle.script_spec.specs.Writes.{rule_file as rule_file_of_name, names_of, writes_of_text, names_of_writes, names_of_text};
-ghost use Rattle.script_spec.specs.Grammar.{labels_of, label_words, stands_for_label as is_kind_of_label, text_labels, most_labels};
+ghost use Rattle.file_spec.specs.Writes.{names_of};
+ghost use Rattle.script_spec.specs.Lines.{labels_of, label_words, stands_for_label as is_kind_of_label};
+ghost use Rattle.script_spec.specs.Grammar.{most_labels};
 ghost use Rattle.smackfs.specs.Named.{named, HasGoodNames};
-ghost use Rattle.script_text.specs.Lines.{call_seen};
-ghost use Rattle.script_text.specs.HasLabels.{AreLabels, HasLabels};
+ghost use Rattle.script_text.specs.Spelled.{spelled_seen, AreLabels, IsCall};
+ghost use Rattle.script_text.specs.WrittenTexts.{names_of_ops, AreGoodOps, IsTextOfCall};
 
-use crate::line::Line;
-use crate::words::{kinds_of, verb_of};
+use crate::spelled::Spelled;
+use crate::texts::WrittenText;
+use crate::verbs::kinds_of;
 use label_table::{Labels, LabelsFault};
 use rule_text::Part;
-use script_spec::{RuleFile, Verb, WordKind};
+use script_spec::WordKind;
 use smack_base::Label;
-use smackfs::{NamedOp, TextWrites, first_bad, rule_file};
+use smackfs::NamedOp;
 
 /// Adds the label that a text is.
 fn add_label(labels: &mut Labels, text: &[u8]) -> Result<(), LabelsFault>
-    requires { is_label text.now ≡ true }
+    requires label { is_label text.now ≡ true }
+    requires limit { length labels.old ≤ most_labels }
     ensures ok { OnOk result (labels.new ≡ with_name labels.old text.now) }
     ensures limit { OnOk result (length labels.new ≤ most_labels) }
     ensures many { result ≡ Err LabelsFault.TooMany → most_labels < length (with_name labels.old text.now) }
 {
+    if labels.id(text).is_some() {
+        return Ok(());
+    }
     match Label::read(text) {
         Ok(label) => match labels.add(&label) {
             Ok(_) => Ok(()),
@@ -35,6 +41,7 @@ fn add_label(labels: &mut Labels, text: &[u8]) -> Result<(), LabelsFault>
 fn add_both(labels: &mut Labels, one: &[u8], two: &[u8]) -> Result<(), LabelsFault>
     requires one { is_label one.now ≡ true }
     requires two { is_label two.now ≡ true }
+    requires limit { length labels.old ≤ most_labels }
     ensures ok { OnOk result (labels.new ≡ with_names labels.old (one.now ∷ two.now ∷ [])) }
     ensures limit { OnOk result (length labels.new ≤ most_labels) }
     ensures many { result ≡ Err LabelsFault.TooMany → most_labels < length (with_names labels.old (one.now ∷ two.now ∷ [])) }
@@ -73,47 +80,36 @@ fn add_names(labels: &mut Labels, op: NamedOp<'_>) -> Result<(), LabelsFault>
     }
 }
 
-/// Adds the labels of a text without a bad line.
-fn add_good_names(labels: &mut Labels, file: RuleFile, text: &[u8]) -> Result<(), LabelsFault>
-    requires short { length text.now ≤ 65536 }
-    requires good { is_ok (writes_of_text file text.now) ≡ true }
+/// Adds the labels that writes name.
+fn add_ops(labels: &mut Labels, ops: &[NamedOp<'_>]) -> Result<(), LabelsFault>
+    requires good { AreGoodOps ops.now }
     requires limit { length labels.old ≤ most_labels }
-    ensures ok { OnOk result (labels.new ≡ with_names labels.old (names_of_writes (writes_of_text file text.now))) }
+    ensures ok { OnOk result (labels.new ≡ with_names labels.old (names_of_ops ops.now)) }
     ensures limit { OnOk result (length labels.new ≤ most_labels) }
-    ensures many { result ≡ Err LabelsFault.TooMany → most_labels < length (with_names labels.old (names_of_writes (writes_of_text file text.now))) }
+    ensures many { result ≡ Err LabelsFault.TooMany → most_labels < length (with_names labels.old (names_of_ops ops.now)) }
 {
-    let mut writes = TextWrites::of(file, text);
-    while let Some(answer) = writes.next() {
-        if let Ok(op) = answer {
-            if let Err(fault) = add_names(labels, op) {
-                return Err(fault);
-            }
+    for op in ops {
+        if let Err(fault) = add_names(labels, *op) {
+            return Err(fault);
         }
     }
     Ok(())
 }
 
-/// Adds the labels of a text that is written to a file, where the file accepts it whole.
-fn add_file_labels(labels: &mut Labels, name: &[u8], text: &[u8]) -> Result<(), LabelsFault>
-    requires short { length text.now ≤ 65536 }
-    requires limit { length labels.old ≤ most_labels }
-    ensures ok { OnOk result (labels.new ≡ with_names labels.old (names_of_text (rule_file_of_name name.now) text.now)) }
-    ensures limit { OnOk result (length labels.new ≤ most_labels) }
-    ensures many { result ≡ Err LabelsFault.TooMany → most_labels < length (with_names labels.old (names_of_text (rule_file_of_name name.now) text.now)) }
-{
-    let Some(file) = rule_file(name) else {
-        return Ok(());
-    };
-    match first_bad(file, text) {
-        Some(_) => Ok(()),
-        None => add_good_names(labels, file, text),
-    }
-}
-
 fn stands_for_label(kind: WordKind) -> bool
     ensures { result ≡ is_kind_of_label kind }
 {
-    matches!(kind, WordKind::Label)
+    match kind {
+        WordKind::Label => true,
+        WordKind::Modes
+        | WordKind::File
+        | WordKind::Number
+        | WordKind::Path
+        | WordKind::Capability
+        | WordKind::TaskName
+        | WordKind::Signal
+        | WordKind::Way => false,
+    }
 }
 
 /// Adds the words that stand for labels, by the kinds of the words.
@@ -139,42 +135,22 @@ fn add_label_words(
     Ok(())
 }
 
-/// Adds the labels of the text of a call.
-fn add_text_labels(
+/// Adds the labels of a call and of what its text spells. `TooMany` comes where more than 65,535
+/// would stand.
+pub fn add_labels(
     labels: &mut Labels,
-    verb: Verb,
-    name: &[u8],
-    text: &[u8],
+    call: &Spelled<'_, '_>,
+    text: &WrittenText<'_>,
 ) -> Result<(), LabelsFault>
-    requires short { length text.now ≤ 65536 }
+    requires call { IsCall call.now }
+    requires text { IsTextOfCall call.now.verb (spelled_seen call.now) text.now }
     requires limit { length labels.old ≤ most_labels }
-    ensures ok { OnOk result (labels.new ≡ with_names labels.old (text_labels verb name.now text.now)) }
+    ensures ok { OnOk result (labels.new ≡ with_names labels.old (labels_of (spelled_seen call.now))) }
     ensures limit { OnOk result (length labels.new ≤ most_labels) }
-    ensures many { result ≡ Err LabelsFault.TooMany → most_labels < length (with_names labels.old (text_labels verb name.now text.now)) }
+    ensures many { result ≡ Err LabelsFault.TooMany → most_labels < length (with_names labels.old (labels_of (spelled_seen call.now))) }
 {
-    match verb {
-        Verb::Write => add_file_labels(labels, name, text),
-        Verb::Ask => Ok(()),
-        Verb::Task(_) => Ok(()),
-        Verb::Tree(_) => Ok(()),
-    }
-}
-
-/// Adds the labels of a call. `TooMany` comes where more than 65,535 would stand.
-pub fn add_labels(labels: &mut Labels, call: &Line<'_>) -> Result<(), LabelsFault>
-    requires labels { HasLabels (call_seen call.now) }
-    requires short { length call.now.text.bytes.now ≤ 65536 }
-    requires limit { length labels.old ≤ most_labels }
-    ensures ok { OnOk result (labels.new ≡ with_names labels.old (labels_of (call_seen call.now))) }
-    ensures limit { OnOk result (length labels.new ≤ most_labels) }
-    ensures many { result ≡ Err LabelsFault.TooMany → most_labels < length (with_names labels.old (labels_of (call_seen call.now))) }
-{
-    let Some(verb) = verb_of(call.verb.bytes) else {
-        return Ok(());
-    };
-    let words = [call.one, call.two, call.three];
-    if let Err(fault) = add_label_words(labels, kinds_of(verb), &words) {
+    if let Err(fault) = add_label_words(labels, kinds_of(call.verb), &call.words[1..]) {
         return Err(fault);
     }
-    add_text_labels(labels, verb, call.one.bytes, call.text.bytes)
+    add_ops(labels, text.ops.items())
 }

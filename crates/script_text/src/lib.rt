@@ -1,23 +1,30 @@
-//! Reads a script: the calls that its lines spell, as slices of the input, and its label table.
+//! Reads a script: the calls that its lines spell, as slices of the input, the names of its tasks,
+//! and its label table.
 //!
 //! A contract sees a `Script` as the list of its calls, each with its words and its text at their
 //! places. `Script::read` is exact to the grammar of `script_spec`: it gives the script that the
-//! bytes are, or the first line that breaks the grammar or a limit. No word is copied.
+//! bytes are, or the first line that breaks the grammar or a limit. What the grammar reads off the
+//! calls above a line is kept here in tables (`Draft`), so that a script is read in one pass. No
+//! word is copied.
 //!
-//! Stands on rule_text for lines and words and on label_table for the labels.
+//! Stands on rule_text for lines and words, on smackfs for texts and on label_table for the labels.
 #![tactic(auto)]
 
 mod causes;
 mod labels;
 mod line;
 mod reading;
-mod rows;
 mod script;
+mod spelled;
+mod tasks;
 #[cfg(test)]
 mod tests;
+mod texts;
+mod verbs;
 mod words;
 
 pub use line::Line;
 pub use script::{MOST_BYTES, Script};
-pub use script_spec::{Cause, ScriptFault, TaskVerb, TreeVerb, Verb, What};
-pub use words::{cap_of, number_of, verb_of};
+pub use script_spec::{Cause, ScriptFault, TaskVerb, TraceWay, TreeVerb, Verb, What};
+pub use verbs::verb_of;
+pub use words::{cap_of, number_of, signal_of, trace_way_of};

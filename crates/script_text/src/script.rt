@@ -1,10 +1,14 @@
 ghost use Rattle.std.specs.Prelude.{◌≡◌, ◌≤◌, length, map, IfOk};
-ghost use Rattle.script_spec.specs.Grammar.{parse, table_of, most_lines};
+ghost use Rattle.script_spec.specs.Grammar.{parse, most_lines, most_tasks};
+ghost use Rattle.script_spec.specs.Lines.{table_of};
+ghost use Rattle.script_spec.specs.Tasks.{task_names};
 ghost use Rattle.script_text.specs.Lines.{call_seen};
 ghost use Rattle.script_text.specs.Scripts.{Reads};
+ghost use Rattle.script_text.specs.TaskTables.{names_in};
 
 use crate::line::Line;
 use crate::reading::{Draft, read_calls};
+use crate::tasks::TaskTable;
 use label_table::Labels;
 use rule_text::Part;
 use script_spec::{ScriptFault, What};
@@ -19,12 +23,13 @@ pub const MOST_BYTES: u32 = 4_194_304;
 #[derive(Drop)]
 pub struct Script<'a> {
     lines: Vec<Line<'a>>,
+    tasks: Vec<Part<'a>>,
     labels: Labels,
 }
 
 impl<'a> Model for Script<'a> {
     ghost use Rattle.std.specs.Prelude.{List, map};
-    ghost use Rattle.script_spec.specs.Grammar.{ScriptLine};
+    ghost use Rattle.script_spec.specs.Lines.{ScriptLine};
     ghost use Rattle.script_text.specs.Lines.{call_seen};
     ghost use Rattle.script_text.specs.IsScript.{IsScript};
 
@@ -32,7 +37,7 @@ impl<'a> Model for Script<'a> {
 
     ghost view = { λ s. map call_seen s.lines.items };
 
-    ghost invariant = { λ s. IsScript (map call_seen s.lines.items) s.labels };
+    ghost invariant = { λ s. IsScript (map call_seen s.lines.items) s.tasks.items s.labels };
 }
 
 impl<'a> Script<'a> {
@@ -46,13 +51,20 @@ impl<'a> Script<'a> {
             return Err(ScriptFault::TooLarge { what: What::Bytes });
         }
         match read_calls(alloc, Part { bytes, at: 0 }) {
-            Ok(
-                Draft {
+            Ok(draft) => {
+                let Draft {
                     lines,
+                    tasks,
                     rows: _,
                     labels,
-                },
-            ) => Ok(Script { lines, labels }),
+                } = draft;
+                let TaskTable { names, .. } = tasks;
+                Ok(Script {
+                    lines,
+                    tasks: names,
+                    labels,
+                })
+            }
             Err(fault) => Err(fault),
         }
     }
@@ -63,6 +75,14 @@ impl<'a> Script<'a> {
         ensures few { length result.now ≤ most_lines }
     {
         self.lines.as_slice()
+    }
+
+    /// The names of the tasks by pid: `init`, and then those of the `fork` lines in their order.
+    pub fn tasks(&self) -> &[Part<'a>]
+        ensures names { names_in result.now ≡ task_names self.now }
+        ensures few { length result.now ≤ most_tasks }
+    {
+        self.tasks.as_slice()
     }
 
     /// The label table of the script: the predefined labels, and then its own in the order in

@@ -21,8 +21,32 @@ fn words_and_texts_at_their_places(rt: HostRuntime) -> Result<(), Fail> {
     Ok(())
 }
 
+#[test]
+fn pids_and_calls_of_each_task(rt: HostRuntime) -> Result<(), Fail> {
+    let bytes = b"init fork B\nB fork C\nC take\nB kill C 9\ninit take";
+    match Script::read(rt.alloc(), bytes) {
+        Ok(script) => {
+            let lines = script.lines();
+            assert_eq!(rt; lines.len(), 5);
+            assert!(rt; lines[1].task == 1 && lines[1].seq == 1);
+            assert!(rt; lines[2].task == 2 && lines[2].seq == 1);
+            assert!(rt; lines[3].task == 1 && lines[3].seq == 2);
+            assert!(rt; lines[4].task == 0 && lines[4].seq == 2);
+            assert!(rt; lines[2].one.bytes.is_empty());
+            let names = script.tasks();
+            assert_eq!(rt; names.len(), 3);
+            assert_eq!(rt; names[0].bytes, b"init".as_slice());
+            assert_eq!(rt; names[2].bytes, b"C".as_slice());
+        }
+        Err(_) => assert!(rt; false),
+    }
+    Ok(())
+}
+
 /// Scripts, and how many labels they have beside the predefined ones.
-const LABELLED: [(&[u8], u32); 8] = [
+const LABELLED: [(&[u8], u32); 10] = [
+    (b"init write load-self2 2\nA B r\nB C r\n", 3),
+    (b"init write relabel-self 1\nA - B\n", 0),
     (b"init write load2 2\nA B r\nB C r\n", 3),
     (b"init write load2 2\nA B r\nB C z\n", 0),
     (b"init write load3 1\nA B r\n", 0),
@@ -45,14 +69,17 @@ fn labels_of_words_and_texts(rt: HostRuntime) -> Result<(), Fail> {
 }
 
 /// Scripts, their first bad line, and why it is bad.
-const BAD_LINES: [(&[u8], u32, Cause); 16] = [
+const BAD_LINES: [(&[u8], u32, Cause); 22] = [
     (b"\0", 1, Cause::Word { k: 1 }),
     (b"init\task A B r", 1, Cause::Word { k: 1 }),
     (b"init", 1, Cause::Verb),
     (b"init\r\n", 1, Cause::Word { k: 1 }),
     (b"init frob", 1, Cause::Verb),
-    (b"init exit x y", 1, Cause::NotBuilt),
-    (b"init write relabel-self x", 1, Cause::NotBuilt),
+    (b"init lock 0 shared", 1, Cause::NotBuilt),
+    (b"init write unconfined", 1, Cause::NotBuilt),
+    (b"init exit x y", 1, Cause::Words),
+    (b"init kill init 32", 1, Cause::Word { k: 4 }),
+    (b"init trace look init", 1, Cause::Word { k: 3 }),
     (b"init ask A B r x", 1, Cause::Words),
     (b"init ask A B\tr", 1, Cause::Words),
     (
@@ -66,6 +93,9 @@ const BAD_LINES: [(&[u8], u32, Cause); 16] = [
     (b"init create /a/b", 1, Cause::NotBuilt),
     (b"init write load2 2\nA B r", 1, Cause::Text),
     (b"B ask A B r", 1, Cause::Task),
+    (b"init fork B\nB exit\nB take", 3, Cause::Task),
+    (b"init fork B\ninit fork B", 2, Cause::Name),
+    (b"init fork B\ninit wait B\ninit wait B", 3, Cause::Wait),
 ];
 
 #[test]
@@ -81,6 +111,31 @@ fn the_first_bad_line(rt: HostRuntime) -> Result<(), Fail> {
     };
     assert!(rt; Script::read(rt.alloc(), file).err() == Some(long));
     assert!(rt; Script::read(rt.alloc(), b"init write abcdefghijklmnopqrstuvwxyz012345 0").is_ok());
+    Ok(())
+}
+
+/// Adds a line by which the first task forks a task with a name of two digits.
+fn put_fork(script: &mut Vec<u8>, n: u8) -> Result<(), Fail> {
+    script.extend_from_slice(b"init fork ")?;
+    script.push(b'0'.saturating_add(n / 10))?;
+    script.push(b'0'.saturating_add(n % 10))?;
+    script.push(b'\n')?;
+    Ok(())
+}
+
+#[test]
+fn most_tasks(rt: HostRuntime) -> Result<(), Fail> {
+    let mut script = Vec::new(rt.alloc());
+    for n in 1..64u8 {
+        put_fork(&mut script, n)?;
+    }
+    match Script::read(rt.alloc(), script.as_slice()) {
+        Ok(read) => assert_eq!(rt; read.tasks().len(), 64),
+        Err(_) => assert!(rt; false),
+    }
+    put_fork(&mut script, 64)?;
+    let many = ScriptFault::TooLarge { what: What::Tasks };
+    assert!(rt; Script::read(rt.alloc(), script.as_slice()).err() == Some(many));
     Ok(())
 }
 

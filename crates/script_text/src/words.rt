@@ -1,73 +1,17 @@
-ghost use Rattle.std.specs.Prelude.{true, ◌≡◌, ◌<◌, ◌≤◌, ◌^◌, ◌+◌, ◌*◌, ◌∷◌, ◌++◌, [], length, map, drop, IfOk, IfSome, MatchOption, All};
+ghost use Rattle.std.specs.Prelude.{true, ◌≡◌, ◌<◌, ◌≤◌, ◌^◌, ◌+◌, ◌*◌, ◌∷◌, ◌++◌, [], length, map, take, drop, IfOk, IfSome, MatchOption, All};
 ghost use Rattle.std.specs.List.{list_all, list_any};
 ghost use Rattle.std.specs.Str.{bytes_eq};
 ghost use Rattle.smack_base.specs.Paths.{is_slash as is_slash_byte, is_name_byte};
 ghost use Rattle.text_spec.specs.Texts.{is_space};
 ghost use Rattle.rule_text.specs.Parts.{Fits, placed, words_of};
-ghost use Rattle.script_spec.specs.Words.{verb_of as verb_of_name, kinds_of as kinds_of_verb, task_kinds as kinds_of_task_verb, tree_kinds as kinds_of_tree_verb, cap_of as cap_of_name, is_deep as is_deep_word, is_self_file as is_word_self_file, is_file_name as is_word_file_name, number_of as number_of_word, is_decimal as is_decimal_word, value_from, is_digit as is_digit_byte, is_of_kind as is_word_of_kind};
+ghost use Rattle.script_spec.specs.Words.{cap_of as cap_of_name, is_deep as is_deep_word, is_unbuilt_file as is_unbuilt_file_name, is_file_name as is_word_file_name, number_of as number_of_word, signal_of as signal_of_word, trace_way_of as trace_way_of_name, is_decimal as is_decimal_word, value_from, is_digit as is_digit_byte, is_task_byte as is_byte_of_task, is_task_name as is_name_of_task, is_way as is_way_of_verb, is_of_kind as is_word_of_kind, is_deep_path as is_deep_word_of, has_deep_path as have_deep_path, bad_word as bad_word_of, word_at};
 ghost use Rattle.script_spec.specs.Grammar.{text_count as text_count_of_words};
 
+use crate::verbs::verb_of;
 use rule_text::{Part, Separator, split_word};
-use script_spec::{TaskVerb, TreeVerb, Verb, WordKind};
+use script_spec::{TraceWay, Verb, WordKind};
 use smack_base::{Cap, Label, Modes, is_path};
 use std::alloc::{AllocError, Global};
-
-/// The verb with this name; None where there is none.
-pub fn verb_of(name: &[u8]) -> Option<Verb>
-    ensures { result ≡ verb_of_name name.now }
-{
-    if name == b"write".as_slice() {
-        Some(Verb::Write)
-    } else if name == b"ask".as_slice() {
-        Some(Verb::Ask)
-    } else if name == b"relabel".as_slice() {
-        Some(Verb::Task(TaskVerb::Relabel))
-    } else if name == b"drop".as_slice() {
-        Some(Verb::Task(TaskVerb::Drop))
-    } else if name == b"create".as_slice() {
-        Some(Verb::Tree(TreeVerb::Create))
-    } else if name == b"unlink".as_slice() {
-        Some(Verb::Tree(TreeVerb::Unlink))
-    } else if name == b"list".as_slice() {
-        Some(Verb::Tree(TreeVerb::List))
-    } else {
-        None
-    }
-}
-
-fn task_kinds(verb: TaskVerb) -> &'static [WordKind]
-    ensures kinds { result.now ≡ kinds_of_task_verb verb }
-    ensures few { length result.now ≤ 3 }
-{
-    match verb {
-        TaskVerb::Relabel => &[WordKind::Label],
-        TaskVerb::Drop => &[WordKind::Capability],
-    }
-}
-
-fn tree_kinds(verb: TreeVerb) -> &'static [WordKind]
-    ensures kinds { result.now ≡ kinds_of_tree_verb verb }
-    ensures few { length result.now ≤ 3 }
-{
-    match verb {
-        TreeVerb::Create => &[WordKind::Path],
-        TreeVerb::Unlink => &[WordKind::Path],
-        TreeVerb::List => &[WordKind::Path, WordKind::Number],
-    }
-}
-
-/// The kinds of the words behind a verb.
-pub fn kinds_of(verb: Verb) -> &'static [WordKind]
-    ensures kinds { result.now ≡ kinds_of_verb verb }
-    ensures few { length result.now ≤ 3 }
-{
-    match verb {
-        Verb::Write => &[WordKind::File, WordKind::Number],
-        Verb::Ask => &[WordKind::Label, WordKind::Label, WordKind::Modes],
-        Verb::Task(verb) => task_kinds(verb),
-        Verb::Tree(verb) => tree_kinds(verb),
-    }
-}
 
 /// The capability with this name; None where there is none.
 pub fn cap_of(name: &[u8]) -> Option<Cap>
@@ -157,15 +101,6 @@ fn are_printed(word: &[u8]) -> bool
     word.iter().all(|b| b.is_ascii_graphic())
 }
 
-/// Whether a word names a file whose text is a call on the writing task.
-pub fn is_self_file(word: &[u8]) -> bool
-    ensures { result ≡ is_word_self_file word.now }
-{
-    word == b"load-self2".as_slice()
-        || word == b"load-self".as_slice()
-        || word == b"relabel-self".as_slice()
-}
-
 /// Whether a word is a name of a file.
 fn is_file_name(word: &[u8]) -> bool
     ensures { result ≡ is_word_file_name word.now }
@@ -173,19 +108,132 @@ fn is_file_name(word: &[u8]) -> bool
     !word.is_empty() && word.len() <= 32 && are_printed(word)
 }
 
-/// Whether a word is of a kind.
-pub fn is_of_kind(kind: WordKind, word: &[u8]) -> bool
+/// Whether a word names a file that scripts do not have yet.
+pub fn is_unbuilt_file(word: &[u8]) -> bool
+    ensures { result ≡ is_unbuilt_file_name word.now }
+{
+    word == b"unconfined".as_slice()
+}
+
+/// The way of tracing with this name; None where there is none.
+pub fn trace_way_of(name: &[u8]) -> Option<TraceWay>
+    ensures { result ≡ trace_way_of_name name.now }
+{
+    if name == b"read".as_slice() {
+        Some(TraceWay::Read)
+    } else if name == b"attach".as_slice() {
+        Some(TraceWay::Attach)
+    } else {
+        None
+    }
+}
+
+/// The number of a signal, from 1 to 31, that a word is; None where it is none.
+pub fn signal_of(word: &[u8]) -> Option<u8>
+    ensures { result ≡ signal_of_word word.now }
+{
+    match number_of(word) {
+        Some(n) => {
+            if n >= 1 && n <= 31 {
+                Some(n as u8)
+            } else {
+                None
+            }
+        }
+        None => None,
+    }
+}
+
+fn is_task_byte(b: u8) -> bool
+    ensures { result ≡ is_byte_of_task b }
+{
+    b.is_ascii_digit() || (b >= b'A' && b <= b'Z') || (b >= b'a' && b <= b'z') || b == b'_'
+}
+
+fn are_task_bytes(word: &[u8]) -> bool
+    ensures { result ≡ list_all is_byte_of_task word.now }
+{
+    word.iter().all(|b| is_task_byte(*b))
+}
+
+/// Whether a word is a name of a task.
+pub fn is_task_name(word: &[u8]) -> bool
+    ensures { result ≡ is_name_of_task word.now }
+{
+    !word.is_empty() && word.len() <= 16 && are_task_bytes(word)
+}
+
+/// Whether a word is a way of the verb before it.
+fn is_way(before: &[Part<'_>], word: &[u8]) -> bool
+    ensures { result ≡ is_way_of_verb (map placed before.now) word.now }
+{
+    match before.first() {
+        Some(verb) => verb.bytes == b"trace".as_slice() && trace_way_of(word).is_some(),
+        None => false,
+    }
+}
+
+/// Whether a word is of a kind, behind the words from the verb on that stand before it.
+fn is_of_kind(kind: WordKind, before: &[Part<'_>], word: &[u8]) -> bool
     requires { length word.now < 2 ^ 32 }
-    ensures { result ≡ is_word_of_kind kind word.now }
+    ensures { result ≡ is_word_of_kind kind (map placed before.now) word.now }
 {
     match kind {
-        WordKind::Label => Label::read(word).is_ok(),
+        WordKind::Label => Label::fault(word).is_none(),
         WordKind::Modes => Modes::read(word).is_ok(),
         WordKind::File => is_file_name(word),
         WordKind::Number => number_of(word).is_some(),
         WordKind::Path => is_path(word),
         WordKind::Capability => cap_of(word).is_some(),
+        WordKind::TaskName => is_task_name(word),
+        WordKind::Signal => signal_of(word).is_some(),
+        WordKind::Way => is_way(before, word),
     }
+}
+
+/// The number in the line of the first word behind the verb that is not of its kind. The words begin
+/// with the verb.
+pub fn bad_word(kinds: &[WordKind], words: &[Part<'_>]) -> Option<u32>
+    requires few { length kinds.now ≤ 3 }
+    requires as_many { length kinds.now < length words.now }
+    requires fit { All Fits words.now }
+    ensures { result ≡ bad_word_of (map placed (take 1 words.now)) kinds.now (map placed (drop 1 words.now)) }
+{
+    for (i, kind) in kinds.iter().enumerate() {
+        if !is_of_kind(*kind, &words[..i + 1], words[i + 1].bytes) {
+            return Some(i as u32 + 3);
+        }
+    }
+    None
+}
+
+fn is_deep_path(kind: WordKind, word: &[u8]) -> bool
+    ensures { result ≡ is_deep_word_of kind word.now }
+{
+    match kind {
+        WordKind::Path => is_deep(word),
+        WordKind::Label
+        | WordKind::Modes
+        | WordKind::File
+        | WordKind::Number
+        | WordKind::Capability
+        | WordKind::TaskName
+        | WordKind::Signal
+        | WordKind::Way => false,
+    }
+}
+
+/// Whether one of the words that stand for paths has more than one name.
+pub fn has_deep_path(kinds: &[WordKind], words: &[Part<'_>]) -> bool
+    requires { length kinds.now ≤ length words.now }
+    ensures { result ≡ have_deep_path kinds.now (map placed words.now) }
+{
+    for (i, kind) in kinds.iter().enumerate() {
+        if is_deep_path(*kind, words[i].bytes) {
+            return true;
+        }
+    }
+    false
 }
 
 /// The words of a line, in order.
@@ -201,6 +249,16 @@ pub fn spaced_words<'a>(alloc: Global, line: Part<'a>) -> Result<Vec<Part<'a>>, 
         rest = after;
     }
     Ok(words)
+}
+
+/// The word behind so many others; an empty one where there is none.
+pub fn word<'a>(words: &[Part<'a>], k: usize) -> Part<'a>
+    ensures { placed result ≡ word_at k (map placed words.now) }
+{
+    match words.get(k) {
+        Some(word) => *word,
+        None => Part { bytes: b"", at: 0 },
+    }
 }
 
 /// How many of the lines behind these words are their text.

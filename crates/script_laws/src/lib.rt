@@ -1,0 +1,27 @@
+//! The grammar of scripts as a relation on whole lines, and the law that `parse` of `script_spec` is
+//! that relation: what it gives is related, and nothing else is.
+//!
+//! `specs/Parses.antt` says in the words of the format what a script is: lines that are skipped, the
+//! lines of calls, and the lines of their texts. A function of this crate does nothing; its contract
+//! is the law.
+#![tactic(auto)]
+
+ghost use Rattle.std.specs.Prelude.{◌≡◌, ℕ, List, Result};
+ghost use Rattle.script_spec.specs.declared.ScriptFault.{ScriptFault};
+ghost use Rattle.script_spec.specs.Lines.{ScriptLine};
+ghost use Rattle.script_spec.specs.Grammar.{parse};
+ghost use Rattle.script_laws.specs.Parses.{Parses};
+ghost use Rattle.script_laws.specs.WorkedScripts.{WorkedScripts};
+
+/// Bytes parse as what the grammar relates them to, and as nothing else.
+#[tactic(auto, using(crate::proofs::Grammar::sound))]
+pub fn parse_is_the_grammar()
+    ensures sound { (bytes : List ℕ) → Parses bytes (parse bytes) }
+    ensures complete { (bytes : List ℕ) (read : Result (List ScriptLine) ScriptFault) → Parses bytes read → parse bytes ≡ read }
+{}
+
+/// Scripts with a bad line, computed from the definitions.
+#[tactic(auto, using(crate::proofs::Worked::scripts))]
+pub fn worked_scripts()
+    ensures { WorkedScripts }
+{}
