@@ -1,14 +1,15 @@
-use Rattle.std.specs.Prelude.{ℕ, Bool, true, false, ◌&&◌, not, if◌then◌else◌, List, [], ◌∷◌, Option, Some, None}
+use Rattle.std.specs.Prelude.{ℕ, Bool, true, false, ◌&&◌, if◌then◌else◌, List, [], ◌∷◌, Option, Some, None}
 use Rattle.smack_base.specs.declared.modes.Modes.{Modes}
 use Rattle.smack_base.specs.declared.ids.LabelId.{LabelId}
 use Rattle.smack_base.specs.Modes.{holds}
 use Rattle.rules_spec.specs.declared.Verdict.{Verdict}
 use Rattle.rules_spec.specs.Versions.{floor, hat, star, same_label}
 use Rattle.rules_spec.specs.Rulings.{Ruling}
+use Rattle.rules_spec.specs.AskedModes.{read_execute}
 
--- no mode but read and execute is asked for
+-- each mode that is asked for is read or execute
 abbrev pub only_reads : Modes → Bool
-only_reads m = not m.write && not m.append && not m.transmute && not m.bring_up
+only_reads m = holds read_execute m
 
 -- there is a rule, and it has every mode that is asked for
 abbrev pub ruled : Option Modes → Modes → Bool

@@ -1,5 +1,6 @@
 pub mod Versions
 pub mod Rulings
+pub mod AskedModes
 pub mod Cases
 pub mod Creds
 pub mod Verdicts

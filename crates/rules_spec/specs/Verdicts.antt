@@ -1,10 +1,12 @@
-use Rattle.std.specs.Prelude.{Bool, true, false, ◌&&◌, not, if◌then◌else◌, Option, Some, None}
+use Rattle.std.specs.Prelude.{◌==◌, Bool, true, false, ◌&&◌, not, if◌then◌else◌, Option, Some, None}
 use Rattle.smack_base.specs.declared.modes.Modes.{Modes}
 use Rattle.smack_base.specs.declared.ids.LabelId.{LabelId}
-use Rattle.smack_base.specs.declared.cap.Cap.TheVariants.{MacOverride}
+use Rattle.smack_base.specs.declared.cap.Cap.TheVariants.{MacOverride, SysPtrace}
 use Rattle.smack_base.specs.Modes.{holds}
 use Rattle.rules_spec.specs.declared.Verdict.{Verdict}
+use Rattle.rules_spec.specs.Versions.{same_label}
 use Rattle.rules_spec.specs.Rulings.{Ruling}
+use Rattle.rules_spec.specs.AskedModes.{read_write}
 use Rattle.rules_spec.specs.Creds.{Creds, self_rule, is_effective}
 use Rattle.rules_spec.specs.Cases.{verdict_of_cases}
 
@@ -25,3 +27,14 @@ overridden privileged v = if privileged && not v.allowed then record v { allowed
 abbrev pub full_verdict : Creds → Ruling → LabelId → LabelId → Modes → Verdict
 full_verdict c version s o m =
     overridden (is_effective c MacOverride version) (restricted (self_rule c.self_rules s o) (verdict_of_cases version s o m))
+
+-- case 10: a task attaches to a task with its own label alone
+abbrev pub same_label_verdict : LabelId → LabelId → Verdict
+same_label_verdict s o = record { allowed = same_label s o; case = 10; over = 0; subject = s; object = o; modes = read_write }
+
+-- Attaching by ptrace to a task with label o (Smack guide, `ptrace` in its list of smackfs files). Policy 0 asks for
+-- read and write; the others want one label, and policy 1 yields to CAP_SYS_PTRACE.
+abbrev pub attach_verdict : Creds → Ruling → LabelId → Verdict
+attach_verdict c version o =
+    if version.ptrace == 0 then full_verdict c version c.label o read_write
+    else overridden (version.ptrace == 1 && is_effective c SysPtrace version) (same_label_verdict c.label o)

@@ -43,7 +43,11 @@ after_write s o before (Set s' o' m) = if same_pair s' o' s o then Some m else b
 after_write s o before (Change s' o' allow deny) =
     if same_pair s' o' s o then Some (without (union (present before) allow) deny) else before
 after_write s o before (Revoke s') = if same_label s' s then revoked before else before
-after_write s o before _ = before
+after_write s o before OnlyClear = before
+after_write s o before (OnlyAdd l) = before
+after_write s o before (Ambient l) = before
+after_write s o before (Ptrace n) = before
+after_write s o before (Logging n) = before
 
 -- the rights of a pair in a version: None where there is no rule
 abbrev pub rights : List Batch → LabelId → LabelId → Option Modes
@@ -53,7 +57,12 @@ rights version s o = fold (after_write s o) None (writes version)
 abbrev pub after_only : List LabelId → RuleOp → List LabelId
 after_only list OnlyClear = []
 after_only list (OnlyAdd l) = list ++ l ∷ []
-after_only list _ = list
+after_only list (Set s o m) = list
+after_only list (Change s o allow deny) = list
+after_only list (Revoke s) = list
+after_only list (Ambient l) = list
+after_only list (Ptrace n) = list
+after_only list (Logging n) = list
 
 -- the onlycap list of a version: the labels added since it was last cleared
 abbrev pub only : List Batch → List LabelId
@@ -61,7 +70,13 @@ only version = fold after_only [] (writes version)
 
 abbrev pub after_ambient : LabelId → RuleOp → LabelId
 after_ambient before (Ambient l) = l
-after_ambient before _ = before
+after_ambient before (Set s o m) = before
+after_ambient before (Change s o allow deny) = before
+after_ambient before (Revoke s) = before
+after_ambient before OnlyClear = before
+after_ambient before (OnlyAdd l) = before
+after_ambient before (Ptrace n) = before
+after_ambient before (Logging n) = before
 
 -- the ambient label of a version
 abbrev pub ambient : List Batch → LabelId
@@ -69,7 +84,13 @@ ambient version = fold after_ambient floor (writes version)
 
 abbrev pub after_ptrace : ℕ → RuleOp → ℕ
 after_ptrace before (Ptrace n) = n
-after_ptrace before _ = before
+after_ptrace before (Set s o m) = before
+after_ptrace before (Change s o allow deny) = before
+after_ptrace before (Revoke s) = before
+after_ptrace before OnlyClear = before
+after_ptrace before (OnlyAdd l) = before
+after_ptrace before (Ambient l) = before
+after_ptrace before (Logging n) = before
 
 -- the ptrace policy of a version
 abbrev pub ptrace : List Batch → ℕ
@@ -77,7 +98,13 @@ ptrace version = fold after_ptrace 0 (writes version)
 
 abbrev pub after_logging : ℕ → RuleOp → ℕ
 after_logging before (Logging n) = n
-after_logging before _ = before
+after_logging before (Set s o m) = before
+after_logging before (Change s o allow deny) = before
+after_logging before (Revoke s) = before
+after_logging before OnlyClear = before
+after_logging before (OnlyAdd l) = before
+after_logging before (Ambient l) = before
+after_logging before (Ptrace n) = before
 
 -- the logging mode of a version
 abbrev pub logging : List Batch → ℕ

@@ -4,9 +4,13 @@
 //!
 //! A journal is the list of published batches, and version n of it is its first n batches.
 //! `Versions` folds the writes of a version into rights and settings, `Rulings` names all that a
-//! version says, and `Cases` is the table of the ordered cases.
+//! version says, and `Cases` is the table of the ordered cases. `Creds` has the credentials of a
+//! task, and `Verdicts` what they add to the cases.
 #![tactic(auto)]
 
+mod asked_modes;
+
+pub use asked_modes::{EXECUTE, READ, READ_EXECUTE, READ_WRITE, WRITE};
 use smack_base::{Duplicate, LabelId, Modes, RuleOps, Sequence};
 use std::alloc::AllocError;
 

@@ -37,7 +37,7 @@ fn restrict(rule: Option<Modes>, v: Verdict) -> Verdict
 }
 
 /// Case 9: privilege over the case that denies.
-fn override_denial(privileged: bool, v: Verdict) -> Verdict
+pub(crate) fn override_denial(privileged: bool, v: Verdict) -> Verdict
     ensures { result ≡ overridden privileged v }
 {
     if privileged && !v.allowed {

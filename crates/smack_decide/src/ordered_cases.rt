@@ -5,14 +5,14 @@ ghost use Rattle.rules_spec.specs.Cases.{only_reads as only_reads_of, ruled, all
 ghost use Rattle.rule_fold.specs.Index.{ruling_of, StandsFor};
 
 use rule_fold::RuleIndex;
-use rules_spec::Verdict;
+use rules_spec::{READ_EXECUTE, Verdict};
 use smack_base::{LabelId, Modes};
 
-/// Whether no mode but read and execute is asked for.
+/// Whether each mode that is asked for is read or execute.
 fn only_reads(m: Modes) -> bool
     ensures { result ≡ only_reads_of m }
 {
-    !m.write && !m.append && !m.transmute && !m.bring_up
+    READ_EXECUTE.has(m)
 }
 
 /// Whether there is a rule, and it has every mode that is asked for.

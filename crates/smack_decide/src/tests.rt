@@ -1,4 +1,4 @@
-use crate::{cases, decide, effective};
+use crate::{cases, decide, decide_attach, effective};
 use rule_fold::RuleIndex;
 use rules_spec::Batch;
 use smack_base::{Cap, LabelId, Modes, Pair, Pairs, RuleOp, RuleOps};
@@ -123,5 +123,28 @@ fn capabilities_under_onlycap(rt: HostRuntime) -> Result<(), Fail> {
     assert!(rt; effective(&cred, Cap::MacAdmin, &rules));
     cred.drop_cap(Cap::MacAdmin);
     assert!(rt; !effective(&cred, Cap::MacAdmin, &rules));
+    Ok(())
+}
+
+#[test]
+fn attaching_under_each_policy(rt: HostRuntime) -> Result<(), Fail> {
+    let mut rules = rules(&rt)?;
+    let mut cred = Cred::first(rt.alloc());
+    cred.set_label(A);
+    let v = decide_attach(&cred, &rules, B);
+    assert!(rt; v.allowed && v.case == 6 && v.modes == modes(&rt, b"rw"));
+    for (policy, allowed, case, over) in [(1, true, 9, 10), (2, false, 10, 0)] {
+        let mut ops = RuleOps::new(rt.alloc());
+        ops.push(RuleOp::Ptrace { n: policy })?;
+        assert!(rt; rules.version() < 9);
+        rules.absorb(&Batch {
+            task: 0,
+            seq: 2,
+            ops,
+        })?;
+        let v = decide_attach(&cred, &rules, B);
+        assert!(rt; v.allowed == allowed && v.case == case && v.over == over);
+        assert!(rt; decide_attach(&cred, &rules, A).case == 10);
+    }
     Ok(())
 }

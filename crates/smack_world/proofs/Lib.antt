@@ -1,3 +1,2 @@
-pub mod Places
-pub mod Rooms
-pub mod Listings
+pub mod Callers
+pub mod Standing

@@ -1,21 +1,21 @@
-ghost use Rattle.std.specs.Prelude.{◌≡◌, ◌<◌, length, IfOk, OnOk, OnErr};
+ghost use Rattle.std.specs.Prelude.{◌≡◌, ◌<◌, None, length, IfOk, OnOk, OnErr};
 ghost use Rattle.rule_fold.specs.Index.{ruling_of};
 ghost use Rattle.rules_spec.specs.Rulings.{Ruling};
-ghost use Rattle.world_spec.specs.Worlds.{most_nodes};
-ghost use Rattle.world_spec.specs.Questions.{asks};
-ghost use Rattle.world_spec.specs.Steps.{went, verdict_of, effect as effect_of, step};
-ghost use Rattle.smack_world.specs.Seen.{world_seen, went_in, HasRoom};
+ghost use Rattle.world_spec.specs.Worlds.{most_nodes, creds_of};
+ghost use Rattle.world_spec.specs.Questions.{call_asks, asks};
+ghost use Rattle.world_spec.specs.Steps.{went, verdict_by_creds, verdict_of, effect as effect_of, step};
+ghost use Rattle.world_state.specs.Seen.{world_seen};
+ghost use Rattle.world_state.specs.Judging.{went_in, Passes};
 
-use crate::judgement::Judgement;
-use crate::state::State;
-use crate::task_calls::{task_asks, task_effect};
-use crate::tree_effects::{tree_effect, tree_reply};
-use crate::tree_questions::tree_asks;
 use rule_fold::RuleIndex;
 use rules_spec::Checks;
 use smack_base::Duplicate;
 use std::alloc::{AllocError, Global};
-use world_spec::{Call, Reply};
+use task_calls::{task_effect, task_judgement, task_reply};
+use task_creds::Cred;
+use tree_calls::{tree_effect, tree_judgement, tree_reply};
+use world_spec::{Call, Reply, Why};
+use world_state::{Judgement, State};
 
 /// What a caller is told of a call: the verdicts that were asked, and the reply.
 #[derive(Debug, Drop)]
@@ -32,30 +32,57 @@ impl Duplicate for Answer {
     }
 }
 
+/// What the call of a live task, which has these credentials, comes to before its effect.
+fn judge_call(
+    alloc: Global,
+    state: &State,
+    rules: &RuleIndex,
+    task: u16,
+    cred: &Cred,
+    call: &Call,
+) -> Result<Judgement, AllocError>
+    requires { length state.now.files.items < most_nodes }
+    ensures went { IfOk result (λ j. went_in j ≡ went (verdict_by_creds cred.now (ruling_of rules.now))
+        (call_asks (world_seen state.now) (ruling_of rules.now) task cred.now call.now)) }
+    ensures passes { IfOk result (λ j. j.stop ≡ None → Passes (call_asks (world_seen state.now) (ruling_of rules.now) task cred.now call.now)) }
+{
+    match call {
+        Call::Task(call) => task_judgement(alloc, state, rules, task, cred, call),
+        Call::Tree(call) => tree_judgement(alloc, state, rules, cred, call),
+    }
+}
+
+/// What a call comes to before its effect.
+#[tactic(auto, using(crate::proofs::Callers::of_nobody, crate::proofs::Callers::of_live))]
 fn judge(
     alloc: Global,
     state: &State,
     rules: &RuleIndex,
+    task: u16,
     call: &Call,
 ) -> Result<Judgement, AllocError>
     requires { length state.now.files.items < most_nodes }
-    ensures went { IfOk result (λ j. went_in j ≡ went (verdict_of (world_seen state.now) (ruling_of rules.now)) (asks (world_seen state.now) (ruling_of rules.now) call.now)) }
-    ensures room { IfOk result (λ j. j.stop ≡ None → HasRoom (length state.now.files.items) call.now) }
+    ensures went { IfOk result (λ j. went_in j ≡ went (verdict_of (world_seen state.now) (ruling_of rules.now) task) (asks (world_seen state.now) (ruling_of rules.now) task call.now)) }
+    ensures made { IfOk result (λ j. j.stop ≡ None → task < length state.now.tasks) }
+    ensures passes { IfOk result (λ j. j.stop ≡ None → Passes (call_asks (world_seen state.now) (ruling_of rules.now) task (creds_of (world_seen state.now) task) call.now)) }
 {
-    match call {
-        Call::Task(call) => Ok(task_asks(alloc, state, rules, call)),
-        Call::Tree(call) => tree_asks(alloc, state, rules, call),
+    match state.tasks.live_cred(task) {
+        Some(cred) => judge_call(alloc, state, rules, task, cred, call),
+        None => Ok(Judgement {
+            checks: Checks::new(alloc),
+            stop: Some(Reply::Refused(Why::NoSuchTask)),
+        }),
     }
 }
 
 /// The reply to a call that goes through.
-fn reply_of(alloc: Global, state: &State, call: &Call) -> Result<Reply, AllocError>
+fn reply_of(alloc: Global, state: &State, task: u16, call: &Call) -> Result<Reply, AllocError>
     requires { length state.now.files.items < most_nodes }
-    ensures { IfOk result (λ reply. (version : Ruling) → reply ≡ (effect_of (world_seen state.now) version call.now).reply) }
+    ensures { IfOk result (λ reply. (version : Ruling) → reply ≡ (effect_of (world_seen state.now) version task call.now).reply) }
 {
     match call {
-        Call::Task(_) => Ok(Reply::Ok),
-        Call::Tree(call) => tree_reply(alloc, state, call),
+        Call::Task(call) => Ok(task_reply(state, task, call)),
+        Call::Tree(call) => tree_reply(alloc, state, task, call),
     }
 }
 
@@ -64,19 +91,19 @@ fn effect(
     alloc: Global,
     state: &mut State,
     rules: &RuleIndex,
+    task: u16,
     call: &Call,
 ) -> Result<(), AllocError>
-    requires { HasRoom (length state.old.files.items) call.now }
-    ensures ok { OnOk result (world_seen state.new ≡ (effect_of (world_seen state.old) (ruling_of rules.now) call.now).world) }
+    requires small { length state.old.files.items < most_nodes }
+    requires made { task < length state.old.tasks }
+    requires passes { Passes (call_asks (world_seen state.old) (ruling_of rules.now) task (creds_of (world_seen state.old) task) call.now) }
+    ensures ok { OnOk result (world_seen state.new ≡ (effect_of (world_seen state.old) (ruling_of rules.now) task call.now).world) }
     ensures err { OnErr result (world_seen state.new ≡ world_seen state.old) }
     ensures room { length state.new.files.items < most_nodes }
 {
     match call {
-        Call::Task(call) => {
-            task_effect(state, rules, call);
-            Ok(())
-        }
-        Call::Tree(call) => tree_effect(alloc, state, call),
+        Call::Task(call) => task_effect(state, rules, task, call),
+        Call::Tree(call) => tree_effect(alloc, state, task, call),
     }
 }
 
@@ -85,42 +112,45 @@ fn go_through(
     alloc: Global,
     state: &mut State,
     rules: &RuleIndex,
+    task: u16,
     call: &Call,
     checks: Checks,
 ) -> Result<(Answer, Answer), AllocError>
     requires small { length state.old.files.items < most_nodes }
-    requires room { HasRoom (length state.old.files.items) call.now }
-    ensures world { OnOk result (world_seen state.new ≡ (effect_of (world_seen state.old) (ruling_of rules.now) call.now).world) }
-    ensures answer { IfOk result (λ both. both.0 ≡ record { checks = checks; reply = (effect_of (world_seen state.old) (ruling_of rules.now) call.now).reply }) }
+    requires made { task < length state.old.tasks }
+    requires passes { Passes (call_asks (world_seen state.old) (ruling_of rules.now) task (creds_of (world_seen state.old) task) call.now) }
+    ensures world { OnOk result (world_seen state.new ≡ (effect_of (world_seen state.old) (ruling_of rules.now) task call.now).world) }
+    ensures answer { IfOk result (λ both. both.0 ≡ record { checks = checks; reply = (effect_of (world_seen state.old) (ruling_of rules.now) task call.now).reply }) }
     ensures copy { IfOk result (λ both. both.1 ≡ both.0) }
     ensures err { OnErr result (world_seen state.new ≡ world_seen state.old) }
     ensures small { length state.new.files.items < most_nodes }
 {
-    let reply = reply_of(alloc, state, call)?;
+    let reply = reply_of(alloc, state, task, call)?;
     let answer = Answer { checks, reply };
     let copy = answer.copy()?;
-    effect(alloc, state, rules, call)?;
+    effect(alloc, state, rules, task, call)?;
     Ok((answer, copy))
 }
 
-/// Takes a call: the answer, and a copy of it. On want of memory nothing changes.
+/// Takes a call of a task: the answer, and a copy of it. On want of memory nothing changes.
 pub(crate) fn act(
     alloc: Global,
     state: &mut State,
     rules: &RuleIndex,
+    task: u16,
     call: &Call,
 ) -> Result<(Answer, Answer), AllocError>
     requires { length state.old.files.items < most_nodes }
-    ensures world { OnOk result (world_seen state.new ≡ (step (world_seen state.old) (ruling_of rules.now) call.now).world) }
-    ensures checks { IfOk result (λ both. both.0.checks ≡ (step (world_seen state.old) (ruling_of rules.now) call.now).checks) }
-    ensures reply { IfOk result (λ both. both.0.reply ≡ (step (world_seen state.old) (ruling_of rules.now) call.now).reply) }
+    ensures world { OnOk result (world_seen state.new ≡ (step (world_seen state.old) (ruling_of rules.now) task call.now).world) }
+    ensures checks { IfOk result (λ both. both.0.checks ≡ (step (world_seen state.old) (ruling_of rules.now) task call.now).checks) }
+    ensures reply { IfOk result (λ both. both.0.reply ≡ (step (world_seen state.old) (ruling_of rules.now) task call.now).reply) }
     ensures copy { IfOk result (λ both. both.1 ≡ both.0) }
     ensures err { OnErr result (world_seen state.new ≡ world_seen state.old) }
     ensures room { length state.new.files.items < most_nodes }
 {
-    let Judgement { checks, stop } = judge(alloc, state, rules, call)?;
+    let Judgement { checks, stop } = judge(alloc, state, rules, task, call)?;
     match stop {
-        None => go_through(alloc, state, rules, call, checks),
+        None => go_through(alloc, state, rules, task, call, checks),
         Some(reply) => {
             let answer = Answer { checks, reply };
             let copy = answer.copy()?;

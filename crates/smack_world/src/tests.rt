@@ -1,7 +1,7 @@
 use crate::{Call, Reply, Stepped, TaskCall, TreeCall, Why, World};
 use rule_fold::RuleIndex;
 use rules_spec::Verdict;
-use smack_base::{Bytes, Cap, LabelId, Modes, Path};
+use smack_base::{Bytes, Cap, LabelId, Modes, Path, Pid};
 use std::alloc::Global;
 use std::process::Abort;
 use std::test::Fail;
@@ -84,19 +84,23 @@ fn are_bytes(names: &[Bytes], bytes: &[u8]) -> bool {
 #[derive(Clone, Copy)]
 enum Wanted<'a> {
     Ok,
+    Child(u16),
+    Signal(u8),
     Names(u32, &'a [u8]),
     Denied(u8),
-    NotPrivileged,
+    Refused(Why),
 }
 
 fn is_wanted(reply: &Reply, wanted: Wanted<'_>) -> bool {
     match (reply, wanted) {
         (Reply::Ok, Wanted::Ok) => true,
+        (Reply::Child(task), Wanted::Child(number)) => *task == number,
+        (Reply::Signal(sig), Wanted::Signal(number)) => *sig == number,
         (Reply::Names { count, names }, Wanted::Names(all, bytes)) => {
             *count == all && are_bytes(names.items(), bytes)
         }
         (Reply::Denied(case), Wanted::Denied(by)) => *case == by,
-        (Reply::Refused(Why::NotPrivileged), Wanted::NotPrivileged) => true,
+        (Reply::Refused(why), Wanted::Refused(by)) => *why == by,
         _ => false,
     }
 }
@@ -109,7 +113,18 @@ fn comes_to(
     call: Call,
     wanted: (&[Verdict], Wanted<'_>),
 ) -> bool {
-    match world.step(alloc, rules, 0, 1, call) {
+    comes_of(alloc, world, rules, (0, call), wanted)
+}
+
+/// Whether a call of a task enters the trail with these checks and this reply.
+fn comes_of(
+    alloc: Global,
+    world: &mut World,
+    rules: &RuleIndex,
+    made: (u16, Call),
+    wanted: (&[Verdict], Wanted<'_>),
+) -> bool {
+    match world.step(alloc, rules, made.0, 1, made.1) {
         Ok(
             Stepped::Entered {
                 place: _,
@@ -178,7 +193,7 @@ fn may_not_relabel(alloc: Global, world: &mut World, rules: &RuleIndex) -> bool 
             world,
             rules,
             relabel(B),
-            (&[], Wanted::NotPrivileged),
+            (&[], Wanted::Refused(Why::NotPrivileged)),
         )
 }
 
@@ -232,11 +247,85 @@ fn a_full_trail(rt: HostRuntime) -> Result<(), Fail> {
     let call = drop_cap(Cap::MacAdmin);
     assert!(rt; comes_to(rt.alloc(), &mut world, &rules, call, (&[], Wanted::Ok)));
     for _ in 0..131_071u32 {
-        let wanted = Wanted::NotPrivileged;
+        let wanted = Wanted::Refused(Why::NotPrivileged);
         assert!(rt; comes_to(rt.alloc(), &mut world, &rules, relabel(B), (&[], wanted)));
     }
     let full = world.step(rt.alloc(), &rules, 0, 131_073, relabel(B));
     assert!(rt; matches!(full, Ok(Stepped::TrailFull(_))));
     assert!(rt; world.entries() == 131_072);
+    Ok(())
+}
+
+/// Whether a call on tasks, by the task of a number, has this reply, after one question or none.
+fn replies(
+    alloc: Global,
+    world: &mut World,
+    rules: &RuleIndex,
+    made: (u16, TaskCall),
+    wanted: (&[Verdict], Wanted<'_>),
+) -> bool {
+    comes_of(alloc, world, rules, (made.0, Call::Task(made.1)), wanted)
+}
+
+#[test]
+fn a_child_and_its_signals(rt: HostRuntime) -> Result<(), Fail> {
+    let rules = RuleIndex::new(rt.alloc())?;
+    let mut world = World::new(rt.alloc())?;
+    let write = Modes {
+        write: true,
+        ..Modes::NONE
+    };
+    let asked = [on_floor(LabelId::FLOOR, write, true, 5)];
+    let none: &[Verdict] = &[];
+    let pid = Pid(1);
+    let rows = [
+        (0, TaskCall::Fork { pid }, none, Wanted::Child(1)),
+        (0, TaskCall::Kill { pid, sig: 9 }, &asked, Wanted::Ok),
+        (0, TaskCall::Kill { pid, sig: 3 }, &asked, Wanted::Ok),
+        (1, TaskCall::Take, none, Wanted::Signal(3)),
+        (1, TaskCall::Take, none, Wanted::Signal(9)),
+        (1, TaskCall::Take, none, Wanted::Refused(Why::Again)),
+        (1, TaskCall::Exit, none, Wanted::Ok),
+        (
+            0,
+            TaskCall::Kill { pid, sig: 1 },
+            none,
+            Wanted::Refused(Why::NoSuchTask),
+        ),
+        (1, TaskCall::Take, none, Wanted::Refused(Why::NoSuchTask)),
+        (
+            0,
+            TaskCall::Fork { pid },
+            none,
+            Wanted::Refused(Why::Exists),
+        ),
+    ];
+    for (task, call, checks, wanted) in rows {
+        assert!(rt;
+            replies(
+                rt.alloc(),
+                &mut world,
+                &rules,
+                (task, call),
+                (checks, wanted)
+            )
+        );
+    }
+    assert!(rt; world.cred(1).is_some() && world.cred(2).is_none());
+    Ok(())
+}
+
+#[test]
+fn the_most_tasks(rt: HostRuntime) -> Result<(), Fail> {
+    let rules = RuleIndex::new(rt.alloc())?;
+    let mut world = World::new(rt.alloc())?;
+    for number in 1..64u16 {
+        let fork = TaskCall::Fork { pid: Pid(number) };
+        let wanted = Wanted::Child(number);
+        assert!(rt; replies(rt.alloc(), &mut world, &rules, (0, fork), (&[], wanted)));
+    }
+    let fork = TaskCall::Fork { pid: Pid(64) };
+    let wanted = Wanted::Refused(Why::TasksFull { limit: 64 });
+    assert!(rt; replies(rt.alloc(), &mut world, &rules, (0, fork), (&[], wanted)));
     Ok(())
 }

@@ -1,22 +1,25 @@
-ghost use Rattle.std.specs.Prelude.{◌≡◌, ◌<◌, ◌≤◌, ◌-◌, [], length, slice_get, IfOk, IfErr, IfSome, IsSome, ◌↔◌, OnErr, Some};
-ghost use Rattle.rule_fold.specs.Index.{ruling_of};
-ghost use Rattle.world_spec.specs.Worlds.{world_first};
-ghost use Rattle.smack_world.specs.Seen.{most_entries};
-ghost use Rattle.smack_world.specs.Stepping.{IsStepped};
+ghost use Rattle.std.specs.Prelude.{◌≡◌, ◌<◌, ◌≤◌, ◌-◌, [], List, length, slice_get, IfOk, IfErr, OnOk, OnErr, Some, None, IfSome, MatchOption};
+ghost use Rattle.rules_spec.specs.declared.Batch.{Batch};
+ghost use Rattle.rule_fold.specs.Index.{ruling_of, StandsFor};
+ghost use Rattle.world_spec.specs.Worlds.{world_first, creds_in, live_task as live_task_of, most_tasks};
+ghost use Rattle.world_spec.specs.Replays.{StandsOver};
+ghost use Rattle.smack_world.specs.Stepping.{IsStepped, most_entries};
 
 use crate::acting::act;
-use crate::state::State;
 use rule_fold::RuleIndex;
 use rules_spec::Checks;
+use smack_base::Pid;
 use std::alloc::{AllocError, Global};
 use std::marker::Model;
 use task_creds::Cred;
+use task_table::Tasks;
 use world_spec::{Call, Entry, Reply, Trail};
+use world_state::State;
 
 /// The most entries of a trail.
 const MOST_ENTRIES: u32 = 131_072;
 
-/// The world of one task, and the trail of its calls.
+/// The world that calls act on, and the trail of the calls.
 #[derive(Drop)]
 pub struct World {
     state: State,
@@ -26,7 +29,8 @@ pub struct World {
 impl Model for World {
     ghost use Rattle.std.specs.Prelude.{◌<◌, ◌≤◌, length};
     ghost use Rattle.world_spec.specs.Worlds.{most_nodes};
-    ghost use Rattle.smack_world.specs.Seen.{WorldValue, world_seen, most_entries};
+    ghost use Rattle.world_state.specs.Seen.{world_seen};
+    ghost use Rattle.smack_world.specs.Stepping.{WorldValue, most_entries};
 
     ghost Value = { WorldValue };
 
@@ -57,7 +61,7 @@ impl World {
     {
         Ok(World {
             state: State {
-                cred: Cred::first(alloc),
+                tasks: Tasks::first(alloc)?,
                 files: Vec::new(alloc),
             },
             trail: Vec::new(alloc),
@@ -66,7 +70,8 @@ impl World {
 
     /// Takes a call of a task in the version of `rules` and puts its entry last in the trail.
     /// `TrailFull` comes exactly where the trail has 131,072 entries. On want of memory all is as
-    /// before. In both cases the call comes back.
+    /// before. In both cases the call comes back. Where the rules are the newest version of a journal,
+    /// and the world is the one that its trail leaves over it, so it is after the step.
     pub fn step(
         &mut self,
         alloc: Global,
@@ -76,6 +81,8 @@ impl World {
         call: Call,
     ) -> Result<Stepped, (AllocError, Call)>
         ensures stepped { IfOk result (IsStepped self.old self.new (ruling_of rules.now) task seq call) }
+        ensures stands { OnOk result ((journal : List Batch) → StandsFor rules.now journal
+            → StandsOver journal self.old.trail self.old.world → StandsOver journal self.new.trail self.new.world) }
         ensures back { IfErr result (λ e. e.1 ≡ call) }
         ensures err { OnErr result (self.new ≡ self.old) }
         ensures not_full { OnErr result (length self.old.trail < most_entries) }
@@ -86,7 +93,7 @@ impl World {
         if let Err(error) = self.trail.reserve(1) {
             return Err((error, call));
         }
-        match act(alloc, &mut self.state, rules, &call) {
+        match act(alloc, &mut self.state, rules, task, &call) {
             Err(error) => Err((error, call)),
             Ok((kept, told)) => {
                 self.trail
@@ -124,17 +131,27 @@ impl World {
         &self.trail[place as usize - 1]
     }
 
-    /// The credentials of a task; `None` exactly where no task ever had the number, so for all but
-    /// task 0.
+    /// The credentials of a task, live or not; `None` exactly where no task ever had the number.
     pub fn cred(&self, task: u16) -> Option<&Cred>
-        ensures first { task ≡ 0 → IfSome result (λ cred. cred.now ≡ self.now.world.creds) }
-        ensures some { IsSome result ↔ (task ≡ 0) }
+        ensures { MatchOption result (creds_in self.now.world.tasks task ≡ None) (λ cred. creds_in self.now.world.tasks task ≡ Some cred.now) }
     {
-        if task == 0 {
-            Some(&self.state.cred)
-        } else {
-            None
-        }
+        self.state.tasks.cred(task)
+    }
+
+    /// The number of the live task that has a pid; `None` exactly where no live task has it.
+    pub fn live_task(&self, pid: Pid) -> Option<u16>
+        ensures number { result ≡ live_task_of self.now.world.tasks pid }
+        ensures within { IfSome result (λ task. task < length self.now.world.tasks) }
+    {
+        self.state.tasks.of_pid(pid)
+    }
+
+    /// How many tasks were ever made, at most 64; the next number.
+    pub fn tasks(&self) -> u16
+        ensures tasks { result ≡ length self.now.world.tasks }
+        ensures limit { length self.now.world.tasks ≤ most_tasks }
+    {
+        self.state.tasks.made()
     }
 
     /// The entries in the order in which the calls were made.

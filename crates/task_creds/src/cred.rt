@@ -1,10 +1,10 @@
-ghost use Rattle.std.specs.Prelude.{◌≡◌, ◌≤◌, [], length, OnOk, OnErr, IfErr};
+ghost use Rattle.std.specs.Prelude.{◌≡◌, ◌≤◌, [], length, nat_lt, IfOk, OnOk, OnErr, IfErr};
 ghost use Rattle.rules_spec.specs.Creds.{creds_first, holds_cap, without_cap, with_label, self_rule, with_self_rules, is_listed, most_self_rules, most_relabels};
 ghost use Rattle.task_creds.specs.SelfRules.{AreApart};
 ghost use Rattle.task_creds.specs.Limits.{IsSelfFault, IsRelabelFault};
 
 use crate::fault::CredFault;
-use crate::self_rules::{modes_of, with_more};
+use crate::self_rules::{is_full, joined, modes_of, with_more};
 use smack_base::{Cap, Duplicate, Ids, LabelId, Modes, Pair, Pairs};
 use std::alloc::{AllocError, Global};
 use std::marker::Model;
@@ -125,6 +125,35 @@ impl Cred {
         }
     }
 
+    /// Whether more than 256 self rules would stand with these among them.
+    pub fn self_full(&self, rules: &Pairs) -> Result<bool, AllocError>
+        ensures { IfOk result (λ full. full ≡ nat_lt most_self_rules (length (with_self_rules self.now.self_rules rules.now))) }
+    {
+        is_full(&self.self_rules, rules.items())
+    }
+
+    /// Each rule, in order, takes the place of the self rule of its pair, or comes last, where no
+    /// more than 256 then stand. On want of memory nothing changes.
+    pub fn put_self(&mut self, rules: &Pairs) -> Result<(), AllocError>
+        requires { length (with_self_rules self.old.self_rules rules.now) ≤ most_self_rules }
+        ensures ok { OnOk result (self.new ≡ record self.old { self_rules = with_self_rules self.old.self_rules rules.now }) }
+        ensures err { OnErr result (self.new ≡ self.old) }
+    {
+        self.self_rules = joined(&self.self_rules, rules.items())?;
+        Ok(())
+    }
+
+    /// The relabel list is these labels, where they are no more than 256. On want of memory nothing
+    /// changes.
+    pub fn put_list(&mut self, labels: &Ids) -> Result<(), AllocError>
+        requires { length labels.now ≤ most_relabels }
+        ensures ok { OnOk result (self.new ≡ record self.old { relabels = labels.now }) }
+        ensures err { OnErr result (self.new ≡ self.old) }
+    {
+        self.relabels = Vec::from_slice(*self.relabels.allocator(), labels.items())?;
+        Ok(())
+    }
+
     /// Each rule, in order, takes the place of the self rule of its pair, or comes last. `SelfFull`
     /// comes exactly where more than 256 self rules would stand. On an error nothing changes.
     pub fn add_self(&mut self, rules: &Pairs) -> Result<(), CredFault>
@@ -155,11 +184,8 @@ impl Cred {
                 limit: MOST_RELABELS,
             });
         }
-        match Vec::from_slice(*self.relabels.allocator(), labels.items()) {
-            Ok(list) => {
-                self.relabels = list;
-                Ok(())
-            }
+        match self.put_list(labels) {
+            Ok(()) => Ok(()),
             Err(_) => Err(CredFault::Memory),
         }
     }

@@ -1,4 +1,4 @@
-ghost use Rattle.std.specs.Prelude.{◌≡◌, ◌<◌, ◌≤◌, length, position, IfSome, IfOk, IfErr, OnOk};
+ghost use Rattle.std.specs.Prelude.{◌≡◌, ◌<◌, ◌≤◌, length, nat_lt, position, IfSome, IfOk, IfErr, OnOk};
 ghost use Rattle.rules_spec.specs.Versions.{same_pair};
 ghost use Rattle.rules_spec.specs.Creds.{self_rule, with_self_rule, with_self_rules, most_self_rules};
 ghost use Rattle.task_creds.specs.Limits.{IsSelfFault};
@@ -60,4 +60,30 @@ pub(crate) fn with_more(rules: &Vec<Pair>, more: &[Pair]) -> Result<Vec<Pair>, C
         }
     }
     Ok(all)
+}
+
+/// Whether more rules would stand than a task may have, when some more are put among them.
+pub(crate) fn is_full(rules: &Vec<Pair>, more: &[Pair]) -> Result<bool, AllocError>
+    requires { length rules.now.items ≤ most_self_rules }
+    ensures { IfOk result (λ full. full ≡ nat_lt most_self_rules (length (with_self_rules rules.now.items more.now))) }
+{
+    match with_more(rules, more) {
+        Ok(_) => Ok(false),
+        Err(CredFault::SelfFull { limit: _ }) => Ok(true),
+        Err(CredFault::RelabelFull { limit: _ }) => Err(AllocError),
+        Err(CredFault::Memory) => Err(AllocError),
+    }
+}
+
+/// The rules when some more are put among them, where no more stand then than a task may have.
+pub(crate) fn joined(rules: &Vec<Pair>, more: &[Pair]) -> Result<Vec<Pair>, AllocError>
+    requires before { length rules.now.items ≤ most_self_rules }
+    requires after { length (with_self_rules rules.now.items more.now) ≤ most_self_rules }
+    ensures rules { IfOk result (λ all. all.items ≡ with_self_rules rules.now.items more.now) }
+    ensures room { IfOk result (λ all. length all.items ≤ most_self_rules) }
+{
+    match with_more(rules, more) {
+        Ok(all) => Ok(all),
+        Err(_) => Err(AllocError),
+    }
 }

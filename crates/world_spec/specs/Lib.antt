@@ -1,3 +1,4 @@
+pub mod Signals
 pub mod Worlds
 pub mod Questions
 pub mod Steps

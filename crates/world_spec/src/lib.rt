@@ -1,14 +1,17 @@
 //! What the simulated kernel does: the calls that tasks make, the world that they act on, and the
 //! step from one world to the next. Plain data; the definitions stand in `specs/`.
 //!
-//! A call goes through its refusals and questions in order (`Questions`). The first refusal that
-//! applies, or the first question that is denied, is its reply, and the world stays as it was.
-//! Where there is none, the call has its effect (`Steps`). Each call leaves an entry in the trail,
-//! and `Replays` takes the entries of a trail one after another from the first world.
+//! A call of a task is a list of parts and then an effect. The parts are refusals and questions, in
+//! order (`Questions`). The first refusal that applies, or the first question that is denied, is
+//! its reply, and the world stays as it was. Where there is none, the call has its effect
+//! (`Steps`). Each call leaves an entry in the trail, and `Replays` takes the entries of a trail one
+//! after another from the first world.
 #![tactic(auto)]
 
 use rules_spec::Checks;
-use smack_base::{Bytes, Cap, Duplicate, LabelId, NameList, Path, Sequence};
+use smack_base::{
+    Bytes, Cap, Duplicate, Ids, LabelId, Modes, NameList, Pairs, Path, Pid, Sequence,
+};
 use std::alloc::AllocError;
 
 /// A file of the root directory.
@@ -18,13 +21,54 @@ pub struct FileRow {
     pub label: LabelId,
 }
 
-/// A call on the calling task.
+/// A call on tasks: on the calling task, or on the live task of a pid.
 #[derive(Debug, Drop)]
 pub enum TaskCall {
-    /// Takes another label.
+    /// Makes a task with this pid, which no task ever had. It has a copy of its parent's
+    /// credentials, and no signal waits for it.
+    Fork { pid: Pid },
+    /// The calling task is not live any more.
+    Exit,
+    /// Takes another label (Smack guide, "relabel-self").
     Relabel { l: LabelId },
     /// Gives a capability up.
     DropCap { cap: Cap },
+    /// Adds rules that restrict the calling task (Smack guide, "load-self2").
+    SelfRules { rules: Pairs },
+    /// Replaces the list of labels that the calling task may take (Smack guide, "relabel-self").
+    Relabels { labels: Ids },
+    /// Sends a signal, from 1 to 31, to a task.
+    Kill { pid: Pid, sig: u8 },
+    /// Takes the least signal that waits for the calling task.
+    Take,
+    /// Reads a task by ptrace.
+    TraceRead { pid: Pid },
+    /// Attaches to a task by ptrace.
+    TraceAttach { pid: Pid },
+}
+
+impl Duplicate for TaskCall {
+    fn copy(&self) -> Result<TaskCall, AllocError> {
+        match self {
+            TaskCall::Fork { pid } => Ok(TaskCall::Fork { pid: *pid }),
+            TaskCall::Exit => Ok(TaskCall::Exit),
+            TaskCall::Relabel { l } => Ok(TaskCall::Relabel { l: *l }),
+            TaskCall::DropCap { cap } => Ok(TaskCall::DropCap { cap: *cap }),
+            TaskCall::SelfRules { rules } => Ok(TaskCall::SelfRules {
+                rules: rules.copy()?,
+            }),
+            TaskCall::Relabels { labels } => Ok(TaskCall::Relabels {
+                labels: labels.copy()?,
+            }),
+            TaskCall::Kill { pid, sig } => Ok(TaskCall::Kill {
+                pid: *pid,
+                sig: *sig,
+            }),
+            TaskCall::Take => Ok(TaskCall::Take),
+            TaskCall::TraceRead { pid } => Ok(TaskCall::TraceRead { pid: *pid }),
+            TaskCall::TraceAttach { pid } => Ok(TaskCall::TraceAttach { pid: *pid }),
+        }
+    }
 }
 
 /// A call on the file tree.
@@ -38,6 +82,19 @@ pub enum TreeCall {
     ListDir { path: Path, at: u32 },
 }
 
+impl Duplicate for TreeCall {
+    fn copy(&self) -> Result<TreeCall, AllocError> {
+        match self {
+            TreeCall::Create { path } => Ok(TreeCall::Create { path: path.copy()? }),
+            TreeCall::Unlink { path } => Ok(TreeCall::Unlink { path: path.copy()? }),
+            TreeCall::ListDir { path, at } => Ok(TreeCall::ListDir {
+                path: path.copy()?,
+                at: *at,
+            }),
+        }
+    }
+}
+
 /// A call that a task makes, by families.
 #[derive(Debug, Drop)]
 pub enum Call {
@@ -45,10 +102,37 @@ pub enum Call {
     Tree(TreeCall),
 }
 
+impl Duplicate for Call {
+    fn copy(&self) -> Result<Call, AllocError> {
+        match self {
+            Call::Task(call) => Ok(Call::Task(call.copy()?)),
+            Call::Tree(call) => Ok(Call::Tree(call.copy()?)),
+        }
+    }
+}
+
+/// What a call asks before it is done.
+#[derive(Clone, Copy, Debug, PartialEq, Eq)]
+pub enum Question {
+    /// The caller, with its own label, asks for modes on an object with this label.
+    Own { o: LabelId, m: Modes },
+    /// The caller asks to attach by ptrace to a task with this label.
+    Attach { o: LabelId },
+}
+
+/// A part of a call, before its effect.
+#[derive(Clone, Copy, Debug, PartialEq, Eq)]
+pub enum Part {
+    /// The call is refused where something holds.
+    Refuses { holds: bool, why: Why },
+    /// The call is denied where the verdict of the question is.
+    Asks { question: Question },
+}
+
 /// Why a call was refused.
 #[derive(Clone, Copy, Debug, PartialEq, Eq)]
 pub enum Why {
-    /// The name is taken.
+    /// The name is taken; for a pid, a task has or had it.
     Exists,
     /// The path is `/`.
     IsRoot,
@@ -56,8 +140,20 @@ pub enum Why {
     NotDirectory,
     /// The caller lacks the capability.
     NotPrivileged,
+    /// The caller is not live, or no live task has the pid.
+    NoSuchTask,
     /// There is nothing of this name.
     NoSuchName,
+    /// A number is not in its range.
+    Range,
+    /// There is nothing yet, and there may be later.
+    Again,
+    /// This many tasks were made, the most.
+    TasksFull { limit: u32 },
+    /// More self rules than this would stand, each of a pair of its own.
+    SelfFull { limit: u32 },
+    /// The list has more labels than this.
+    RelabelFull { limit: u32 },
     /// The tree has this many nodes, its most.
     TreeFull { limit: u32 },
 }
@@ -67,6 +163,10 @@ pub enum Why {
 pub enum Reply {
     /// It was done.
     Ok,
+    /// The number of the task that was made.
+    Child(u16),
+    /// The signal that was taken.
+    Signal(u8),
     /// How many names there are, and some of them.
     Names { count: u32, names: NameList },
     /// The question of the last check was denied, by this case.
@@ -79,6 +179,8 @@ impl Duplicate for Reply {
     fn copy(&self) -> Result<Reply, AllocError> {
         match self {
             Reply::Ok => Ok(Reply::Ok),
+            Reply::Child(task) => Ok(Reply::Child(*task)),
+            Reply::Signal(sig) => Ok(Reply::Signal(*sig)),
             Reply::Names { count, names } => Ok(Reply::Names {
                 count: *count,
                 names: names.copy()?,
@@ -104,6 +206,19 @@ pub struct Entry {
     pub checks: Checks,
     /// The answer.
     pub reply: Reply,
+}
+
+impl Duplicate for Entry {
+    fn copy(&self) -> Result<Entry, AllocError> {
+        Ok(Entry {
+            task: self.task,
+            seq: self.seq,
+            call: self.call.copy()?,
+            version: self.version,
+            checks: self.checks.copy()?,
+            reply: self.reply.copy()?,
+        })
+    }
 }
 
 /// Entries in the order in which the calls were made.

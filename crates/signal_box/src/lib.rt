@@ -1,0 +1,11 @@
+//! The signals that wait for a task.
+//!
+//! A contract sees a `Pending` as the list of its signals, in rising order and each once; each call
+//! changes it by the definitions of `Signals` in `world_spec`. Takes no memory.
+#![tactic(auto)]
+
+mod pending;
+#[cfg(test)]
+mod tests;
+
+pub use pending::{OutOfRange, Pending, is_signal};

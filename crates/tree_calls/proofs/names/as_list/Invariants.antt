@@ -1,0 +1,5 @@
+use Rattle.std.proofs.Common.{◌≡◌, ◌++◌}
+use Rattle.tree_calls.proofs.names.as_list.Given as goal
+
+abbrev pub invariant-loop-name : goal.invariant-loop-name
+invariant-loop-name l = l.list.items ++ l.name-iterator ≡ l.set.keys

@@ -1,0 +1,123 @@
+use Rattle.std.specs.Prelude.{◌≡◌, ℕ, true, false, List, [], ◌∷◌}
+use Rattle.smack_base.specs.declared.modes.Modes.{Modes}
+use Rattle.smack_base.specs.declared.ids.LabelId.{LabelId}
+use Rattle.smack_base.specs.declared.ids.Pid.{Pid}
+use Rattle.smack_base.specs.declared.cap.Cap.TheVariants.{MacAdmin, MacOverride, SysPtrace}
+use Rattle.smack_base.specs.declared.rule_op.RuleOp.{RuleOp}
+use Rattle.smack_base.specs.declared.rule_op.RuleOp.TheVariants.{Set, Ptrace}
+use Rattle.rules_spec.specs.declared.Verdict.{Verdict}
+use Rattle.rules_spec.specs.Versions.{floor}
+use Rattle.rules_spec.specs.Rulings.{Ruling, ruling}
+use Rattle.rules_spec.specs.AskedModes.{read, write, read_write}
+use Rattle.world_spec.specs.declared.Call.TheVariants.{Task}
+use Rattle.world_spec.specs.declared.TaskCall.{TaskCall}
+use Rattle.world_spec.specs.declared.TaskCall.TheVariants.{Fork, Exit, Relabel, DropCap, SelfRules, Relabels, Kill, Take, TraceRead, TraceAttach}
+use Rattle.world_spec.specs.declared.Reply.{Reply}
+use Rattle.world_spec.specs.declared.Reply.TheVariants.{Ok as Done, Child, Signal, Denied, Refused}
+use Rattle.world_spec.specs.declared.Why.TheVariants.{Exists, NotPrivileged, NoSuchTask, Again, Range}
+use Rattle.world_spec.specs.Worlds.{World, world_first}
+use Rattle.world_spec.specs.Steps.{step}
+
+-- a call that a task makes in a version
+pub record Made : Type 0 where
+  pub version : Ruling
+  pub task : ℕ
+  pub call : TaskCall
+
+-- what came of a call
+pub record Outcome : Type 0 where
+  pub checks : List Verdict
+  pub reply : Reply
+
+-- what came of some calls, one after another
+abbrev pub outcomes : World → List Made → List Outcome
+outcomes w [] = []
+outcomes w (m ∷ ms) = let s = step w m.version m.task (Task m.call) in record { checks = s.checks; reply = s.reply } ∷ outcomes s.world ms
+
+-- the calls come to this in the first world
+abbrev pub come_to : List Made → List Outcome → Type 0
+come_to calls outs = outcomes world_first calls ≡ outs
+
+abbrev pub label : ℕ → LabelId
+label n = record { 0 = n }
+
+abbrev pub pid : ℕ → Pid
+pid n = record { 0 = n }
+
+-- a version of one batch with these writes
+abbrev pub with_writes : List RuleOp → Ruling
+with_writes ops = ruling (record { task = 0; seq = 1; ops = ops } ∷ [])
+
+-- version 0
+abbrev pub no_rules : Ruling
+no_rules = ruling []
+
+abbrev pub makes_call : Ruling → ℕ → TaskCall → Made
+makes_call version task call = record { version = version; task = task; call = call }
+
+-- a reply without a check
+abbrev pub replies : Reply → Outcome
+replies reply = record { checks = []; reply = reply }
+
+-- a check that is allowed, and the reply
+abbrev pub allowed_then : LabelId → LabelId → Modes → ℕ → ℕ → Reply → Outcome
+allowed_then s o m case over reply = record {
+  checks = record { allowed = true; case = case; over = over; subject = s; object = o; modes = m } ∷ [];
+  reply = reply;
+}
+
+-- a check that is denied, and the reply that says so
+abbrev pub denied : LabelId → LabelId → Modes → ℕ → Outcome
+denied s o m case = record {
+  checks = record { allowed = false; case = case; over = 0; subject = s; object = o; modes = m } ∷ [];
+  reply = Denied case;
+}
+
+-- Signals come in rising order; a task that has exited is nobody's target, makes no call, and its pid stays taken.
+abbrev pub Signals : Type 0
+Signals = come_to
+    (makes_call no_rules 0 (Fork (pid 1)) ∷ makes_call no_rules 0 (Kill (pid 1) 9) ∷ makes_call no_rules 0 (Kill (pid 1) 3)
+    ∷ makes_call no_rules 0 (Kill (pid 1) 32) ∷ makes_call no_rules 1 Take ∷ makes_call no_rules 1 Take ∷ makes_call no_rules 1 Take
+    ∷ makes_call no_rules 1 Exit ∷ makes_call no_rules 0 (Kill (pid 1) 1) ∷ makes_call no_rules 1 Take
+    ∷ makes_call no_rules 0 (Fork (pid 1)) ∷ makes_call no_rules 0 (Fork (pid 2)) ∷ [])
+    (replies (Child 1) ∷ allowed_then floor floor write 5 0 Done ∷ allowed_then floor floor write 5 0 Done
+    ∷ allowed_then floor floor write 5 0 (Refused Range) ∷ replies (Signal 3) ∷ replies (Signal 9) ∷ replies (Refused Again)
+    ∷ replies Done ∷ replies (Refused NoSuchTask) ∷ replies (Refused NoSuchTask)
+    ∷ replies (Refused Exists) ∷ replies (Child 2) ∷ [])
+
+-- Under policy 1 CAP_SYS_PTRACE attaches to another label, under policy 2 nothing does; reading asks by the rules.
+abbrev pub Traces : Type 0
+Traces = come_to
+    (makes_call no_rules 0 (Fork (pid 1)) ∷ makes_call no_rules 1 (Relabel (label 5))
+    ∷ makes_call (with_writes (Ptrace 1 ∷ [])) 0 (TraceAttach (pid 1)) ∷ makes_call (with_writes (Ptrace 2 ∷ [])) 0 (TraceAttach (pid 1))
+    ∷ makes_call (with_writes (Set floor (label 5) read ∷ Ptrace 2 ∷ [])) 0 (TraceRead (pid 1))
+    ∷ makes_call no_rules 0 (TraceAttach (pid 1)) ∷ makes_call no_rules 0 (DropCap SysPtrace)
+    ∷ makes_call (with_writes (Ptrace 1 ∷ [])) 0 (TraceAttach (pid 1)) ∷ [])
+    (replies (Child 1) ∷ replies Done
+    ∷ allowed_then floor (label 5) read_write 9 10 Done ∷ denied floor (label 5) read_write 10
+    ∷ allowed_then floor (label 5) read 6 0 Done
+    ∷ allowed_then floor (label 5) read_write 9 7 Done ∷ replies Done
+    ∷ denied floor (label 5) read_write 10 ∷ [])
+
+-- A task without CAP_MAC_ADMIN takes one label of its list.
+abbrev pub OneRelabel : Type 0
+OneRelabel = come_to
+    (makes_call no_rules 0 (Relabels (label 5 ∷ label 6 ∷ [])) ∷ makes_call no_rules 0 (DropCap MacAdmin)
+    ∷ makes_call no_rules 0 (Relabel (label 5)) ∷ makes_call no_rules 0 (Relabel (label 6))
+    ∷ makes_call no_rules 0 (Relabels []) ∷ [])
+    (replies Done ∷ replies Done ∷ replies Done ∷ replies (Refused NotPrivileged) ∷ replies (Refused NotPrivileged) ∷ [])
+
+-- A child has its parent's self rules and label, and what it changes is its own.
+abbrev pub SelfRulesOfChild : Type 0
+SelfRulesOfChild = come_to
+    (makes_call no_rules 0 (Relabel (label 5)) ∷ makes_call no_rules 0 (SelfRules (record { s = label 5; o = label 5; m = read } ∷ []))
+    ∷ makes_call no_rules 0 (DropCap MacOverride) ∷ makes_call no_rules 0 (Fork (pid 1)) ∷ makes_call no_rules 1 (Kill (pid 0) 1)
+    ∷ makes_call no_rules 1 (TraceRead (pid 0)) ∷ makes_call no_rules 1 (Relabel (label 6)) ∷ makes_call no_rules 0 (TraceRead (pid 1)) ∷ [])
+    (replies Done ∷ replies Done ∷ replies Done ∷ replies (Child 1) ∷ denied (label 5) (label 5) write 8
+    ∷ allowed_then (label 5) (label 5) read 5 0 Done ∷ replies Done ∷ denied (label 5) (label 6) read 7 ∷ [])
+
+pub record WorkedCalls : Type 0 where
+  pub signals : Signals
+  pub traces : Traces
+  pub one_relabel : OneRelabel
+  pub self_rules : SelfRulesOfChild
