@@ -1,17 +1,17 @@
 use Rattle.std.proofs.Common.{◌≡◌, ◌++◌, ◌∙◌, ℕ, List, Some, refl, ap, codes}
 use Rattle.std.proofs.lemmas.Bool.{and_parts}
 use Rattle.std.proofs.lemmas.Option.{option_and_then_some}
-use Rattle.record_spec.specs.Audits.{Audited, IsAudited, audit_text}
-use Rattle.record_spec.proofs.PrintedBytes.{label_bytes, letter_bytes}
+use Rattle.log_spec.specs.Audits.{Audited, IsAudited, audit_text}
+use Rattle.log_spec.proofs.PrintedBytes.{label_bytes, letter_bytes, numeral_bytes}
 use Rattle.audit_line.specs.Values.{behind, values_at, line_keys, values_of_line}
 use Rattle.audit_line.specs.Parts.{texts_of}
 use Rattle.audit_line.proofs.Fronts.{behind_is}
 use Rattle.audit_line.proofs.Told.{AreValues, read_tells, told_again}
-use Rattle.audit_line.proofs.PrintedBytes.{of_action, of_case}
+use Rattle.audit_line.proofs.PrintedBytes.{of_action}
 
 are_values : (a : Audited) → IsAudited a → AreValues line_keys (texts_of a)
 are_values a is = (
-  of_action a.granted,
+  of_action a.action,
   refl,
   (
     (and_parts _ _ is.verb).1,
@@ -22,7 +22,7 @@ are_values a is = (
       (
         label_bytes a.object is.object,
         refl,
-        (letter_bytes a.modes, refl, (of_case a.case is.case, refl, tt)),
+        (letter_bytes a.modes, refl, (numeral_bytes a.case, refl, tt)),
       ),
     ),
   ),

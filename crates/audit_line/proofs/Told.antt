@@ -8,8 +8,8 @@ use Rattle.std.proofs.lemmas.List.{take-append-drop}
 use Rattle.std.proofs.lemmas.Option.{none-some, same_Some, cond_some, option_and_then_some}
 use Rattle.std.proofs.lemmas.Slice.Eq.{bytes_eq-Decides}
 use Rattle.smack_base.specs.Paths.{is_name_byte}
-use Rattle.record_spec.specs.Words.{words, feed}
-use Rattle.record_spec.specs.Audits.{pair}
+use Rattle.log_spec.specs.Words.{words, feed}
+use Rattle.log_spec.specs.Audits.{pair}
 use Rattle.audit_line.specs.Values.{behind, value_len, Parted, parted, cut_value, front_of, values_at}
 use Rattle.audit_line.proofs.Fronts.{behind_front, behind_is}
 

@@ -1,12 +1,13 @@
-use Rattle.std.specs.Prelude.{ℕ, List, [], ◌∷◌, decimal}
+use Rattle.std.specs.Prelude.{ℕ, List, [], ◌∷◌}
 use Rattle.smack_base.specs.Modes.{letters_of}
-use Rattle.record_spec.specs.Audits.{Audited, action_text}
+use Rattle.log_spec.specs.Numerals.{numeral}
+use Rattle.log_spec.specs.Audits.{Audited, outcome, action_text}
 use Rattle.audit_line.specs.declared.parts.AuditParts.{AuditParts}
 
 -- what the parts of a line tell
 abbrev pub parts_seen : AuditParts → Audited
 parts_seen p = record {
-  granted = p.granted;
+  action = outcome p.granted;
   verb = p.verb.now;
   subject = p.subject.now;
   object = p.object.now;
@@ -16,4 +17,4 @@ parts_seen p = record {
 
 -- the values of a line that tells this
 abbrev pub texts_of : Audited → List (List ℕ)
-texts_of a = action_text a.granted ∷ a.verb ∷ a.subject ∷ a.object ∷ letters_of a.modes ∷ decimal a.case ∷ []
+texts_of a = action_text a.action ∷ a.verb ∷ a.subject ∷ a.object ∷ letters_of a.modes ∷ numeral a.case ∷ []

@@ -3,8 +3,8 @@ use Rattle.std.specs.List.{position_or_len}
 use Rattle.std.specs.Option.{option_map, option_and_then}
 use Rattle.std.specs.Str.{bytes_eq}
 use Rattle.smack_base.specs.Paths.{is_name_byte}
-use Rattle.record_spec.specs.Words.{word, feed}
-use Rattle.record_spec.specs.Audits.{pair}
+use Rattle.log_spec.specs.Words.{word, feed}
+use Rattle.log_spec.specs.Audits.{pair}
 use Rattle.audit_line.specs.declared.values.Cut.{Cut}
 use Rattle.audit_line.specs.declared.values.Values.{Values}
 

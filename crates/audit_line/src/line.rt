@@ -1,6 +1,7 @@
-ghost use Rattle.std.specs.Prelude.{◌≡◌, ◌++◌, codes, decimal, OnOk, OnErr};
-ghost use Rattle.record_spec.specs.Words.{word};
-ghost use Rattle.record_spec.specs.Audits.{pair, action_text, audit_line, is_selected};
+ghost use Rattle.std.specs.Prelude.{◌≡◌, ◌++◌, codes, OnOk, OnErr};
+ghost use Rattle.log_spec.specs.Words.{word};
+ghost use Rattle.log_spec.specs.Numerals.{numeral};
+ghost use Rattle.log_spec.specs.Audits.{pair, outcome, action_text, audit_line, is_selected};
 ghost use Rattle.audit_line.specs.Words.{checked_words, words_of_line};
 
 use itoa::Buffer;
@@ -21,7 +22,7 @@ pub fn selected(logging: u8, allowed: bool) -> bool
 }
 
 fn action(allowed: bool) -> &'static [u8]
-    ensures { result.now ≡ action_text allowed }
+    ensures { result.now ≡ action_text (outcome allowed) }
 {
     if allowed { b"granted" } else { b"denied" }
 }
@@ -35,8 +36,9 @@ fn put_pair(out: &mut Vec<u8>, key: &[u8], value: &[u8]) -> Result<(), AllocErro
     out.extend_from_slice(value)
 }
 
+#[tactic(auto, using(log_spec::proofs::Numerals::numeral_is_decimal))]
 fn put_case(out: &mut Vec<u8>, case: u8) -> Result<(), AllocError>
-    ensures { OnOk result (out.new.items ≡ out.old.items ++ word (pair (codes "case") (decimal case))) }
+    ensures { OnOk result (out.new.items ≡ out.old.items ++ word (pair (codes "case") (numeral case))) }
 {
     let mut buffer = Buffer::new();
     put_pair(out, b"case", buffer.format(case).as_bytes())
@@ -62,7 +64,8 @@ fn put_words(out: &mut Vec<u8>, labels: &Labels, verb: &[u8], v: &Verdict) -> Re
     out.extend_from_slice(b"\n")
 }
 
-/// Appends the line of a check that a call of this verb asked, with its line feed. A label whose id
+/// Appends the line of a check that a call of this verb asked, as granted or denied, with its line
+/// feed. A label whose id
 /// is not in the table is printed as no bytes. On want of memory `out` is as before.
 #[tactic(auto, using(crate::proofs::Printed::line_printed))]
 pub fn put_line(
@@ -71,7 +74,7 @@ pub fn put_line(
     verb: &[u8],
     v: &Verdict,
 ) -> Result<(), AllocError>
-    ensures ok { OnOk result (out.new.items ≡ out.old.items ++ audit_line labels.now verb.now v.now) }
+    ensures ok { OnOk result (out.new.items ≡ out.old.items ++ audit_line labels.now verb.now v.now (outcome v.now.allowed)) }
     ensures err { OnErr result (out.new.items ≡ out.old.items) }
 {
     let mut line = Vec::new(*out.allocator());

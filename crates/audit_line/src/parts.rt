@@ -1,11 +1,12 @@
 ghost use Rattle.std.specs.Prelude.{◌≡◌, Some, IfSome};
 ghost use Rattle.std.specs.Option.{option_map};
-ghost use Rattle.record_spec.specs.Audits.{Audited, IsAudited, audit_text};
+ghost use Rattle.log_spec.specs.Audits.{outcome, Audited, IsAudited, audit_text};
 ghost use Rattle.audit_line.specs.Values.{seen_values};
 ghost use Rattle.audit_line.specs.Parts.{parts_seen, texts_of};
 
 use crate::values::{Values, read_values};
 use crate::words::{is_label, is_word, read_action, read_case, read_modes};
+use log_spec::Action;
 use smack_base::Modes;
 
 /// What a line of the system's log tells of a check.
@@ -25,20 +26,29 @@ pub struct AuditParts<'a> {
     pub case: u8,
 }
 
+fn is_granted(action: Action) -> bool
+    ensures { outcome result ≡ action }
+{
+    match action {
+        Action::Granted => true,
+        Action::Denied => false,
+    }
+}
+
 fn read_parts<'a>(values: Values<'a>) -> Option<AuditParts<'a>>
     ensures is { IfSome result (λ p. IsAudited (parts_seen p)
         × (seen_values values.entry ≡ texts_of (parts_seen p))) }
     ensures all { (a : Audited) → IsAudited a → seen_values values.entry ≡ texts_of a
         → option_map parts_seen result ≡ Some a }
 {
-    let granted = read_action(values.action)?;
+    let action = read_action(values.action)?;
     let modes = read_modes(values.modes)?;
     let case = read_case(values.case)?;
     if !is_word(values.verb) || !is_label(values.subject) || !is_label(values.object) {
         return None;
     }
     Some(AuditParts {
-        granted,
+        granted: is_granted(action),
         verb: values.verb,
         subject: values.subject,
         object: values.object,

@@ -1,23 +1,26 @@
-ghost use Rattle.std.specs.Prelude.{◌≡◌, ◌<◌, ℕ, Bool, Some, IfSome, decimal};
+ghost use Rattle.std.specs.Prelude.{◌≡◌, ◌↔◌, ◌<◌, ℕ, Some, IfSome, IsTrue};
 ghost use Rattle.std.specs.List.{list_all};
 ghost use Rattle.smack_base.specs.declared.modes.Modes.{Modes as ModesOf};
 ghost use Rattle.smack_base.specs.Labels.{is_label as is_label_text};
 ghost use Rattle.smack_base.specs.Modes.{letters_of};
 ghost use Rattle.smack_base.specs.Paths.{is_name_byte};
-ghost use Rattle.record_spec.specs.Audits.{action_text, is_word as is_word_text};
+ghost use Rattle.log_spec.specs.declared.Action.{Action as ActionOf};
+ghost use Rattle.log_spec.specs.Numerals.{numeral};
+ghost use Rattle.log_spec.specs.Audits.{action_text, is_word as is_word_text};
 
 use itoa::Buffer;
+use log_spec::Action;
 use smack_base::{Label, Modes};
 
-/// Whether a check was granted, of the word for it.
-pub(crate) fn read_action(word: &[u8]) -> Option<bool>
-    ensures is { IfSome result (λ granted. word.now ≡ action_text granted) }
-    ensures all { (granted : Bool) → word.now ≡ action_text granted → result ≡ Some granted }
+/// What came of a check, of the word for it.
+pub(crate) fn read_action(word: &[u8]) -> Option<Action>
+    ensures is { IfSome result (λ action. word.now ≡ action_text action) }
+    ensures all { (action : ActionOf) → word.now ≡ action_text action → result ≡ Some action }
 {
     if word == b"granted".as_slice() {
-        Some(true)
+        Some(Action::Granted)
     } else if word == b"denied".as_slice() {
-        Some(false)
+        Some(Action::Denied)
     } else {
         None
     }
@@ -37,7 +40,7 @@ pub(crate) fn read_modes(word: &[u8]) -> Option<Modes>
 }
 
 fn parsed(text: &str) -> Option<u8>
-    ensures { (n : ℕ) → n < 256 → text.now ≡ decimal n → result ≡ Some n }
+    ensures { (n : ℕ) → n < 256 → text.now ≡ numeral n → result ≡ Some n }
 {
     match text.parse::<u8>() {
         Ok(n) => Some(n),
@@ -47,7 +50,7 @@ fn parsed(text: &str) -> Option<u8>
 
 /// The number of one byte that a word is; zeros and a plus may stand in front.
 fn number(word: &[u8]) -> Option<u8>
-    ensures { (n : ℕ) → n < 256 → word.now ≡ decimal n → result ≡ Some n }
+    ensures { (n : ℕ) → n < 256 → word.now ≡ numeral n → result ≡ Some n }
 {
     match std::str::from_utf8(word) {
         Ok(text) => parsed(text),
@@ -55,19 +58,22 @@ fn number(word: &[u8]) -> Option<u8>
     }
 }
 
+/// Whether a word is this number, as it is printed.
+fn is_printed(case: u8, word: &[u8]) -> bool
+    ensures { IsTrue result ↔ (word.now ≡ numeral case) }
+{
+    let mut buffer = Buffer::new();
+    buffer.format(case).as_bytes() == word
+}
+
 /// The case that is printed so.
 pub(crate) fn read_case(word: &[u8]) -> Option<u8>
-    ensures is { IfSome result (λ case. word.now ≡ decimal case) }
-    ensures all { (case : ℕ) → case < 256 → word.now ≡ decimal case → result ≡ Some case }
+    ensures is { IfSome result (λ case. word.now ≡ numeral case) }
+    ensures all { (case : ℕ) → case < 256 → word.now ≡ numeral case → result ≡ Some case }
 {
-    let Some(case) = number(word) else {
-        return None;
-    };
-    let mut buffer = Buffer::new();
-    if buffer.format(case).as_bytes() == word {
-        Some(case)
-    } else {
-        None
+    match number(word) {
+        Some(case) if is_printed(case, word) => Some(case),
+        _ => None,
     }
 }
 

@@ -14,9 +14,9 @@ use Rattle.text_spec.specs.declared.RuleForm.TheVariants.{Long, Short, Change}
 use Rattle.text_spec.specs.Texts.{Placed, TextLine, lines_from}
 use Rattle.text_spec.specs.RuleTexts.{RuleWords, LineWord, line_answer, line_answers, rule_answers, before_more, unless_bare, blank_words, unless_fault, listed_fault, subject_line, subject_answer, subject_answers_from, subject_answers, list_word, words_answers, label_answers, is_dash, all_words, only_word, with_first, all_good}
 use Rattle.rule_text.proofs.GoodFields.{AreGood, answer_good}
-use Rattle.script_spec.specs.declared.RuleFile.{RuleFile}
-use Rattle.script_spec.specs.declared.RuleFile.TheVariants.{Load2, Load, ChangeRule, RevokeSubject, Onlycap, Ambient, Ptrace, Logging}
-use Rattle.script_spec.specs.Writes.{NamedWrite, NamedSet, NamedChange, NamedRevoke, NamedClear, NamedAdd, NamedAmbient, NamedPtrace, NamedLogging, set_write, change_write, line_of, digit_in, with_word, digit_or_fault, label_in, number_in, on_good, write_answers, writes_of_text}
+use Rattle.file_spec.specs.declared.RuleFile.{RuleFile}
+use Rattle.file_spec.specs.declared.RuleFile.TheVariants.{Load2, Load, ChangeRule, RevokeSubject, Onlycap, Ambient, Ptrace, Logging}
+use Rattle.file_spec.specs.Writes.{NamedWrite, NamedSet, NamedChange, NamedRevoke, NamedClear, NamedAdd, NamedAmbient, NamedPtrace, NamedLogging, set_write, change_write, line_of, digit_in, with_word, digit_or_fault, label_in, number_in, on_good, write_answers, writes_of_text}
 
 abbrev pub IsLabel : List ℕ → Type 0
 IsLabel name = is_label name ≡ true

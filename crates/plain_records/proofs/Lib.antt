@@ -1,12 +1,13 @@
 pub mod Lists
+pub mod Tables
 pub mod GoodLines
+pub mod KindsOfWords
 pub mod GoodWrites
 pub mod LabelTables
+pub mod Tasks
 pub mod PlainWrites
-pub mod FileNames
 pub mod PlainVerdicts
 pub mod PathWords
-pub mod PlainCalls
 pub mod PlainWorlds
 pub mod Steps
 pub mod PlainSteps

@@ -7,9 +7,9 @@ use Rattle.std.proofs.lemmas.Bool.{le-leb, eqb-false, and_from}
 use Rattle.smack_base.specs.declared.path.PathFault.{PathFault}
 use Rattle.smack_base.specs.declared.path.PathFault.TheVariants.{NotAbsolute, TooDeep}
 use Rattle.smack_base.specs.Paths.{PathName, is_slash, is_name_byte, names_from, name_fault, first_path_fault, unless_bad_name, names_of}
-use Rattle.record_spec.proofs.PrintedBytes.{name_bytes}
-use Rattle.record_spec.specs.Audits.{is_word}
-use Rattle.record_spec.specs.Calls.{path_in}
+use Rattle.log_spec.proofs.PrintedBytes.{name_bytes}
+use Rattle.log_spec.specs.Audits.{is_word}
+use Rattle.replay_spec.specs.Calls.{path_in}
 
 -- texts that are words
 abbrev pub AreWords : List (List ℕ) → Type 0

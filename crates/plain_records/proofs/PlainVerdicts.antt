@@ -3,13 +3,14 @@ use Rattle.std.specs.List.{AllByRecursion}
 use Rattle.std.proofs.lemmas.Bool.{ne_eqb, and_right}
 use Rattle.smack_base.specs.declared.modes.Modes.{Modes}
 use Rattle.smack_base.specs.declared.ids.LabelId.{LabelId}
-use Rattle.smack_base.specs.declared.cap.Cap.TheVariants.{MacOverride}
+use Rattle.smack_base.specs.declared.cap.Cap.TheVariants.{MacOverride, SysPtrace}
 use Rattle.rules_spec.specs.declared.Verdict.{Verdict}
 use Rattle.rules_spec.specs.Rulings.{Ruling}
+use Rattle.rules_spec.specs.AskedModes.{read_write}
 use Rattle.rules_spec.specs.Creds.{Creds, self_rule, is_effective}
 use Rattle.rules_spec.specs.Cases.{OrderedCase, ordered_cases, first_that_applies, verdict_of_cases}
-use Rattle.rules_spec.specs.Verdicts.{restricts, restricted, overridden, full_verdict}
-use Rattle.record_spec.specs.Plain.{HasId, IsPlainVerdict, IsPlainAnswer}
+use Rattle.rules_spec.specs.Verdicts.{restricts, restricted, overridden, full_verdict, same_label_verdict, attach_verdict}
+use Rattle.replay_spec.specs.Plain.{HasId, IsPlainVerdict, IsPlainAnswer}
 
 -- the number of an ordered case, from 1 to 7
 abbrev IsNumbered : OrderedCase → Type 0
@@ -30,31 +31,40 @@ case_numbered rule s o m =
     (ordered_cases rule s o m)
     ((omega arith, omega arith), ((omega arith, omega arith), ((omega arith, omega arith), ((omega arith, omega arith), ((omega arith, omega arith), ((omega arith, omega arith), tt))))))
 
--- a verdict without privilege: its labels are good ones, its case is one from 1 to 8, and it goes over none
-pub record IsUnprivileged (GoodLabel : LabelId → Type 0) (v : Verdict) : Type 0 where
-  pub subject : GoodLabel v.subject
-  pub object : GoodLabel v.object
+-- a verdict without privilege: its labels are known, its case is one from 1 to 10 and not 9, and it goes over none
+pub record IsUnprivileged (table : List (List ℕ)) (v : Verdict) : Type 0 where
+  pub subject : HasId table v.subject
+  pub object : HasId table v.object
   pub first : 1 ≤ v.case
-  pub last : v.case ≤ 8
+  pub last : v.case ≤ 10
+  pub other : v.case ≡ 9 → ⊥
   pub over : v.over ≡ 0
 
 -- what goes over no case is not allowed by case 9
-unprivileged_over : (over case : ℕ) (allowed : Bool) → over ≡ 0 → case ≤ 8 → not (over == 0) ≡ (allowed && (case == 9))
-unprivileged_over over case allowed none last = rw none (sym (and_right allowed (case == 9) (ne_eqb case 9 (λ e. omega arith))))
+unprivileged_over : (over case : ℕ) (allowed : Bool) → over ≡ 0 → (case ≡ 9 → ⊥) → not (over == 0) ≡ (allowed && (case == 9))
+unprivileged_over over case allowed none other = rw none (sym (and_right allowed (case == 9) (ne_eqb case 9 other)))
 
-unprivileged_is_plain : (table : List (List ℕ)) (v : Verdict) → IsUnprivileged (HasId table) v → IsPlainVerdict table v
+unprivileged_is_plain : (table : List (List ℕ)) (v : Verdict) → IsUnprivileged table v → IsPlainVerdict table v
 unprivileged_is_plain table v is = record {
   subject = is.subject;
   object = is.object;
-  over = unprivileged_over v.over v.case v.allowed is.over is.last;
+  case = omega (arith, is.last);
+  over = unprivileged_over v.over v.case v.allowed is.over is.other;
 }
 
 -- a verdict of the ordered cases alone is one without privilege
-pub cases_unprivileged : (GoodLabel : LabelId → Type 0) (version : Ruling) (s o : LabelId) (m : Modes) → GoodLabel s → GoodLabel o
-    → IsUnprivileged GoodLabel (verdict_of_cases version s o m)
-cases_unprivileged GoodLabel version s o m subject object =
+pub cases_unprivileged : (table : List (List ℕ)) (version : Ruling) (s o : LabelId) (m : Modes) → HasId table s → HasId table o
+    → IsUnprivileged table (verdict_of_cases version s o m)
+cases_unprivileged table version s o m subject object =
     let number = case_numbered (version.rights s o) s o m in
-    record { subject = subject; object = object; first = number.0; last = omega (arith, number.1); over = refl }
+    record {
+      subject = subject;
+      object = object;
+      first = number.0;
+      last = omega (arith, number.1);
+      other = λ e. omega (arith, number.1, e);
+      over = refl;
+    }
 
 -- the ordered cases answer a question on known labels plainly
 pub answer_is_plain : (table : List (List ℕ)) (version : Ruling) (s o : LabelId) (m : Modes) → HasId table s → HasId table o
@@ -62,39 +72,39 @@ pub answer_is_plain : (table : List (List ℕ)) (version : Ruling) (s o : LabelI
 answer_is_plain table version s o m subject object =
     let number = case_numbered (version.rights s o) s o m in
     record {
-      verdict = unprivileged_is_plain table _ (cases_unprivileged (HasId table) version s o m subject object);
+      verdict = unprivileged_is_plain table _ (cases_unprivileged table version s o m subject object);
       first = number.0;
       last = number.1;
     }
 
 -- a verdict without privilege still is one where a self rule denies it, by case 8
-restricted_unprivileged : (GoodLabel : LabelId → Type 0) (rule : Option Modes) (v : Verdict) → IsUnprivileged GoodLabel v
-    → IsUnprivileged GoodLabel (restricted rule v)
-restricted_unprivileged GoodLabel rule v is = by (v.allowed && restricts rule v.modes)
+restricted_unprivileged : (table : List (List ℕ)) (rule : Option Modes) (v : Verdict) → IsUnprivileged table v
+    → IsUnprivileged table (restricted rule v)
+restricted_unprivileged table rule v is = by (v.allowed && restricts rule v.modes)
   where
-    by : (b : Bool) → IsUnprivileged GoodLabel (if b then record v { allowed = false; case = 8 } else v)
-    by true = record { subject = is.subject; object = is.object; first = omega arith; last = omega arith; over = is.over }
+    by : (b : Bool) → IsUnprivileged table (if b then record v { allowed = false; case = 8 } else v)
+    by true = record { subject = is.subject; object = is.object; first = omega arith; last = omega arith; other = λ e. omega (arith, e); over = is.over }
     by false = is
 
 -- so the verdict on good labels is one without privilege, before privilege is looked at
-pub question_unprivileged : (GoodLabel : LabelId → Type 0) (c : Creds) (version : Ruling) (s o : LabelId) (m : Modes) → GoodLabel s → GoodLabel o
-    → IsUnprivileged GoodLabel (restricted (self_rule c.self_rules s o) (verdict_of_cases version s o m))
-question_unprivileged GoodLabel c version s o m subject object =
+pub question_unprivileged : (table : List (List ℕ)) (c : Creds) (version : Ruling) (s o : LabelId) (m : Modes) → HasId table s → HasId table o
+    → IsUnprivileged table (restricted (self_rule c.self_rules s o) (verdict_of_cases version s o m))
+question_unprivileged table c version s o m subject object =
     restricted_unprivileged
-    GoodLabel
+    table
     (self_rule c.self_rules s o)
     (verdict_of_cases version s o m)
-    (cases_unprivileged GoodLabel version s o m subject object)
+    (cases_unprivileged table version s o m subject object)
 
 -- privilege gives case 9 over the case that denied
-overridden_is_plain : (table : List (List ℕ)) (privileged : Bool) (v : Verdict) → IsUnprivileged (HasId table) v → IsPlainVerdict table (overridden privileged v)
+overridden_is_plain : (table : List (List ℕ)) (privileged : Bool) (v : Verdict) → IsUnprivileged table v → IsPlainVerdict table (overridden privileged v)
 overridden_is_plain table privileged v is = by (privileged && not v.allowed)
   where
     some_case : not (v.case == 0) ≡ true
     some_case = rw (ne_eqb v.case 0 (λ e. omega (arith, is.first))) refl
 
     by : (b : Bool) → IsPlainVerdict table (if b then record v { allowed = true; case = 9; over = v.case } else v)
-    by true = record { subject = is.subject; object = is.object; over = some_case }
+    by true = record { subject = is.subject; object = is.object; case = omega arith; over = some_case }
     by false = unprivileged_is_plain table v is
 
 -- the full verdict on known labels is plain
@@ -105,4 +115,25 @@ verdict_is_plain table c version s o m subject object =
     table
     (is_effective c MacOverride version)
     (restricted (self_rule c.self_rules s o) (verdict_of_cases version s o m))
-    (question_unprivileged (HasId table) c version s o m subject object)
+    (question_unprivileged table c version s o m subject object)
+
+-- attaching to a task with a known label: by the full verdict, or by the labels alone
+pub attach_is_plain : (table : List (List ℕ)) (c : Creds) (version : Ruling) (o : LabelId) → HasId table c.label → HasId table o
+    → IsPlainVerdict table (attach_verdict c version o)
+attach_is_plain table c version o subject object = by (version.ptrace == 0)
+  where
+    alone : IsUnprivileged table (same_label_verdict c.label o)
+    alone = record {
+      subject = subject;
+      object = object;
+      first = omega arith;
+      last = omega arith;
+      other = λ e. omega (arith, e);
+      over = refl;
+    }
+
+    by : (asks : Bool)
+        → IsPlainVerdict table (if asks then full_verdict c version c.label o read_write
+        else overridden (version.ptrace == 1 && is_effective c SysPtrace version) (same_label_verdict c.label o))
+    by true = verdict_is_plain table c version c.label o read_write subject object
+    by false = overridden_is_plain table (version.ptrace == 1 && is_effective c SysPtrace version) (same_label_verdict c.label o) alone

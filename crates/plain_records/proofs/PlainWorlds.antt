@@ -1,14 +1,24 @@
-use Rattle.std.proofs.Common.{◌≡◌, ◌<◌, ℕ, Bool, true, false, if◌then◌else◌, suc, List, [], ◌∷◌, length, take, drop, Some}
-use Rattle.std.specs.Prelude.{find}
+use Rattle.std.proofs.Common.{◌≡◌, ◌<◌, ℕ, zero, suc, Bool, true, false, if◌then◌else◌, List, [], ◌∷◌, length, take, drop, Option, Some, None}
+use Rattle.std.specs.Prelude.{find, fold}
 use Rattle.std.specs.List.{AllByRecursion, position_or_len}
 use Rattle.std.specs.Option.{option_map}
+use Rattle.std.specs.BTreeSet.{insert_key}
+use Rattle.std.specs.Ordering.{nat_cmp}
+use Rattle.std.specs.Cmp.Lexicographic.{slice_cmp}
+use Rattle.std.proofs.lemmas.List.Elements.{All-from_recursion, recursion_from_All}
+use Rattle.std.proofs.lemmas.Map.Views.{All-insert_key}
 use Rattle.world_spec.specs.declared.FileRow.{FileRow}
-use Rattle.world_spec.specs.Worlds.{World, world_first, has_name, label_of, label_or_floor, comes_before, with_file, without_file}
-use Rattle.world_spec.specs.Steps.{most_names, names_of}
-use Rattle.record_spec.specs.Audits.{is_word}
-use Rattle.record_spec.specs.Plain.{HasId}
+use Rattle.world_spec.specs.Worlds.{World, TaskRow, world_first, creds_in, creds_or_first, creds_of, changed_at, has_name, label_of, label_or_floor, with_file, without_file, names_of, in_byte_order}
+use Rattle.world_spec.specs.Questions.{label_of_task}
+use Rattle.world_spec.specs.Steps.{most_names}
+use Rattle.log_spec.specs.Audits.{is_word}
+use Rattle.replay_spec.specs.Plain.{HasId}
 use Rattle.plain_records.proofs.Lists.{all_append, all_take, all_drop, all_map}
 use Rattle.plain_records.proofs.PathWords.{AreWords}
+
+-- a task whose label is known
+abbrev pub IsPlainTask : List (List ℕ) → TaskRow → Type 0
+IsPlainTask table r = HasId table r.creds.label
 
 -- a file whose name is a word and whose label is known
 pub record IsPlainFile (table : List (List ℕ)) (f : FileRow) : Type 0 where
@@ -17,13 +27,36 @@ pub record IsPlainFile (table : List (List ℕ)) (f : FileRow) : Type 0 where
 
 -- a world whose labels are known and whose files are plain
 pub record IsPlainWorld (table : List (List ℕ)) (w : World) : Type 0 where
-  pub task : HasId table w.creds.label
+  pub tasks : AllByRecursion (IsPlainTask table) w.tasks
   pub root : HasId table w.root
   pub files : AllByRecursion (IsPlainFile table) w.files
 
 -- the first world is plain where the table has a label
 pub first_world_is_plain : (table : List (List ℕ)) → 0 < length table → IsPlainWorld table world_first
-first_world_is_plain table first = record { task = first; root = first; files = tt }
+first_world_is_plain table first = record { tasks = (first, tt); root = first; files = tt }
+
+-- the label of a task is known, and that of none is the first
+creds_are_known : (table : List (List ℕ)) → 0 < length table → (tasks : List TaskRow) (task : ℕ) → AllByRecursion (IsPlainTask table) tasks
+    → HasId table (creds_or_first (creds_in tasks task)).label
+creds_are_known table first [] task plain = first
+creds_are_known table first (r ∷ rs) zero plain = plain.0
+creds_are_known table first (r ∷ rs) (suc n) plain = creds_are_known table first rs n plain.1
+
+pub task_label_is_known : (table : List (List ℕ)) → 0 < length table → (w : World) → IsPlainWorld table w → (task : ℕ)
+    → HasId table (creds_of w task).label
+task_label_is_known table first w plain task = creds_are_known table first w.tasks task plain.tasks
+
+pub other_label_is_known : (table : List (List ℕ)) → 0 < length table → (w : World) → IsPlainWorld table w → (task : Option ℕ)
+    → HasId table (label_of_task w task)
+other_label_is_known table first w plain None = first
+other_label_is_known table first w plain (Some n) = task_label_is_known table first w plain n
+
+-- tasks stay plain where a change keeps each plain
+pub changed_are_plain : (table : List (List ℕ)) (tasks : List TaskRow) (task : ℕ) (change : TaskRow → TaskRow) → AllByRecursion (IsPlainTask table) tasks
+    → ((r : TaskRow) → IsPlainTask table r → IsPlainTask table (change r)) → AllByRecursion (IsPlainTask table) (changed_at tasks task change)
+changed_are_plain table [] task change plain keeps = tt
+changed_are_plain table (r ∷ rs) zero change plain keeps = (keeps r plain.0, plain.1)
+changed_are_plain table (r ∷ rs) (suc n) change plain keeps = (plain.0, changed_are_plain table rs n change plain.1 keeps)
 
 -- the label of a file is known, and that of none is the first
 pub file_label_is_known : (table : List (List ℕ)) → 0 < length table → (files : List FileRow) (name : List ℕ) → AllByRecursion (IsPlainFile table) files
@@ -39,14 +72,7 @@ file_label_is_known table first (f ∷ fs) name plain = by (has_name name f) (fi
 -- files stay plain with one more that is
 pub files_with_one : (table : List (List ℕ)) (files : List FileRow) (f : FileRow) → AllByRecursion (IsPlainFile table) files → IsPlainFile table f
     → AllByRecursion (IsPlainFile table) (with_file files f)
-files_with_one table files f plain one =
-    let at = position_or_len (λ (r : FileRow). comes_before f.name r.name) files in
-    all_append
-    (IsPlainFile table)
-    (take at files)
-    (f ∷ drop at files)
-    (all_take (IsPlainFile table) at files plain)
-    (one, all_drop (IsPlainFile table) at files plain)
+files_with_one table files f plain one = all_append (IsPlainFile table) files (f ∷ []) plain (one, tt)
 
 -- and with one less
 pub files_without_one : (table : List (List ℕ)) (files : List FileRow) (name : List ℕ) → AllByRecursion (IsPlainFile table) files
@@ -60,13 +86,25 @@ files_without_one table files name plain =
     (all_take (IsPlainFile table) at files plain)
     (all_drop (IsPlainFile table) (suc at) files plain)
 
+-- names that are put in byte order are the same names
+all_inserted : (P : List ℕ → Type 0) (names : List (List ℕ)) (name : List ℕ) → AllByRecursion P names → P name
+    → AllByRecursion P (insert_key (slice_cmp nat_cmp) names name)
+all_inserted P names name all one = recursion_from_All P (insert_key (slice_cmp nat_cmp) names name) (All-insert_key (slice_cmp nat_cmp) name P names (All-from_recursion P names all) one)
+
+all_in_order : (P : List ℕ → Type 0) (names more : List (List ℕ)) → AllByRecursion P names → AllByRecursion P more
+    → AllByRecursion P (fold (insert_key (slice_cmp nat_cmp)) names more)
+all_in_order P names [] all more = all
+all_in_order P names (n ∷ ns) all more =
+    all_in_order P (insert_key (slice_cmp nat_cmp) names n) ns (all_inserted P names n all more.0) more.1
+
 -- the names of a listing are words
 pub listed_are_words : (table : List (List ℕ)) (files : List FileRow) (at : ℕ) → AllByRecursion (IsPlainFile table) files
-    → AreWords (take most_names (drop at (names_of files)))
+    → AreWords (take most_names (drop at (in_byte_order (names_of files))))
 listed_are_words table files at plain =
     let P = λ (name : List ℕ). is_word name ≡ true in
     all_take
     P
     most_names
-    (drop at (names_of files))
-    (all_drop P at (names_of files) (all_map (IsPlainFile table) P (λ f. f.name) (λ f is. is.name) files plain))
+    (drop at (in_byte_order (names_of files)))
+    (all_drop P at (in_byte_order (names_of files))
+    (all_in_order P [] (names_of files) tt (all_map (IsPlainFile table) P (λ f. f.name) (λ f is. is.name) files plain)))

@@ -1,26 +1,35 @@
-use Rattle.std.proofs.Common.{Bool, true, false, if◌then◌else◌, List, [], ◌∷◌, Option, Some, None}
+use Rattle.std.proofs.Common.{Bool, true, false, if◌then◌else◌, ℕ, List, [], ◌∷◌, Option, Some, None}
 use Rattle.std.specs.List.{AllByRecursion}
 use Rattle.std.specs.Option.{IfSome}
-use Rattle.smack_base.specs.declared.modes.Modes.{Modes}
-use Rattle.smack_base.specs.declared.ids.LabelId.{LabelId}
 use Rattle.rules_spec.specs.declared.Verdict.{Verdict}
 use Rattle.rules_spec.specs.Rulings.{Ruling}
+use Rattle.world_spec.specs.declared.Question.{Question}
+use Rattle.world_spec.specs.declared.Question.TheVariants.{Own, Attach}
+use Rattle.world_spec.specs.declared.Part.{Part}
+use Rattle.world_spec.specs.declared.Part.TheVariants.{Refuses, Asks}
 use Rattle.world_spec.specs.declared.Call.{Call}
 use Rattle.world_spec.specs.declared.Reply.{Reply}
 use Rattle.world_spec.specs.declared.Reply.TheVariants.{Denied, Refused}
 use Rattle.world_spec.specs.Worlds.{World}
-use Rattle.world_spec.specs.Questions.{Ask, Refuses, Asks, asks}
+use Rattle.world_spec.specs.Questions.{asks}
 use Rattle.world_spec.specs.Steps.{Went, asked, went, verdict_of, Effect, effect, Stepped, stepped, step}
+use Rattle.replay_spec.specs.Plain.{HasId, IsPlainVerdict, IsPlainReply}
+use Rattle.plain_records.proofs.PlainWorlds.{IsPlainWorld}
 
--- a part of a call: a refusal gives a good reply, a question is on a good label
-abbrev pub IsGoodAsk : (LabelId → Type 0) → (Reply → Type 0) → Ask → Type 0
-IsGoodAsk GoodLabel GoodReply (Refuses holds why) = GoodReply (Refused why)
-IsGoodAsk GoodLabel GoodReply (Asks o m) = GoodLabel o
+-- a question is on a known label
+abbrev pub IsPlainQuestion : List (List ℕ) → Question → Type 0
+IsPlainQuestion table (Own o m) = HasId table o
+IsPlainQuestion table (Attach o) = HasId table o
 
--- what the parts of a call came to is good
-record IsGoodWent (GoodVerdict : Verdict → Type 0) (GoodReply : Reply → Type 0) (w : Went) : Type 0 where
-  checks : AllByRecursion GoodVerdict w.checks
-  stop : IfSome w.stop GoodReply
+-- a part of a call: a refusal gives a plain reply, a question is plain
+abbrev pub IsPlainPart : List (List ℕ) → Part → Type 0
+IsPlainPart table (Refuses holds why) = IsPlainReply (Refused why)
+IsPlainPart table (Asks question) = IsPlainQuestion table question
+
+-- what the parts of a call came to is plain
+record IsPlainWent (table : List (List ℕ)) (w : Went) : Type 0 where
+  checks : AllByRecursion (IsPlainVerdict table) w.checks
+  stop : IfSome w.stop IsPlainReply
 
 -- the call ends after these checks
 abbrev ended : List Verdict → Reply → Went
@@ -29,64 +38,48 @@ ended checks reply = record { checks = checks; stop = Some reply }
 abbrev followed : Verdict → Went → Went
 followed v more = record { checks = v ∷ more.checks; stop = more.stop }
 
--- a question with a good verdict, before good parts
-asked_is_good : (GoodVerdict : Verdict → Type 0) (GoodReply : Reply → Type 0) → ((v : Verdict) → GoodVerdict v → GoodReply (Denied v.case))
-    → (v : Verdict) (more : Went) → GoodVerdict v → IsGoodWent GoodVerdict GoodReply more → IsGoodWent GoodVerdict GoodReply (asked v more)
-asked_is_good GoodVerdict GoodReply denies v more good rest = by v.allowed
+-- a question with a plain verdict, before plain parts
+asked_is_plain : (table : List (List ℕ)) (v : Verdict) (more : Went) → IsPlainVerdict table v → IsPlainWent table more → IsPlainWent table (asked v more)
+asked_is_plain table v more plain rest = by v.allowed
   where
-    by : (allowed : Bool) → IsGoodWent GoodVerdict GoodReply (if allowed then followed v more else ended (v ∷ []) (Denied v.case))
-    by true = record { checks = (good, rest.checks); stop = rest.stop }
-    by false = record { checks = (good, tt); stop = denies v good }
+    by : (allowed : Bool) → IsPlainWent table (if allowed then followed v more else ended (v ∷ []) (Denied v.case))
+    by true = record { checks = (plain, rest.checks); stop = rest.stop }
+    by false = record { checks = (plain, tt); stop = tt }
 
--- good parts, whose questions have good verdicts, come to what is good
-went_is_good : (GoodLabel : LabelId → Type 0) (GoodVerdict : Verdict → Type 0) (GoodReply : Reply → Type 0)
-    → ((v : Verdict) → GoodVerdict v → GoodReply (Denied v.case)) → (verdict : LabelId → Modes → Verdict)
-    → ((o : LabelId) (m : Modes) → GoodLabel o → GoodVerdict (verdict o m)) → (parts : List Ask) → AllByRecursion (IsGoodAsk GoodLabel GoodReply) parts
-    → IsGoodWent GoodVerdict GoodReply (went verdict parts)
-went_is_good GoodLabel GoodVerdict GoodReply denies verdict judged [] good = record { checks = tt; stop = tt }
-went_is_good GoodLabel GoodVerdict GoodReply denies verdict judged (Refuses holds why ∷ more) good =
-    by holds (went_is_good GoodLabel GoodVerdict GoodReply denies verdict judged more good.1)
+-- plain parts, whose questions have plain verdicts, come to what is plain
+went_is_plain : (table : List (List ℕ)) (verdict : Question → Verdict) → ((q : Question) → IsPlainQuestion table q → IsPlainVerdict table (verdict q))
+    → (parts : List Part) → AllByRecursion (IsPlainPart table) parts → IsPlainWent table (went verdict parts)
+went_is_plain table verdict judged [] plain = record { checks = tt; stop = tt }
+went_is_plain table verdict judged (Refuses holds why ∷ more) plain = by holds (went_is_plain table verdict judged more plain.1)
   where
-    by : (refused : Bool) → IsGoodWent GoodVerdict GoodReply (went verdict more)
-        → IsGoodWent GoodVerdict GoodReply (if refused then ended [] (Refused why) else went verdict more)
-    by true rest = record { checks = tt; stop = good.0 }
+    by : (refused : Bool) → IsPlainWent table (went verdict more) → IsPlainWent table (if refused then ended [] (Refused why) else went verdict more)
+    by true rest = record { checks = tt; stop = plain.0 }
     by false rest = rest
-went_is_good GoodLabel GoodVerdict GoodReply denies verdict judged (Asks o m ∷ more) good =
-    asked_is_good
-    GoodVerdict
-    GoodReply
-    denies
-    (verdict o m)
-    (went verdict more)
-    (judged o m good.0)
-    (went_is_good GoodLabel GoodVerdict GoodReply denies verdict judged more good.1)
+went_is_plain table verdict judged (Asks question ∷ more) plain =
+    asked_is_plain table (verdict question) (went verdict more) (judged question plain.0) (went_is_plain table verdict judged more plain.1)
 
--- a call leaves, where nothing stops it, a good world and a good reply
-pub record IsGoodEffect (GoodWorld : World → Type 0) (GoodReply : Reply → Type 0) (e : Effect) : Type 0 where
-  pub world : GoodWorld e.world
-  pub reply : GoodReply e.reply
+-- a call leaves, where nothing stops it, a plain world and a plain reply
+pub record IsPlainEffect (table : List (List ℕ)) (e : Effect) : Type 0 where
+  pub world : IsPlainWorld table e.world
+  pub reply : IsPlainReply e.reply
 
--- what a step leaves is good
-pub record IsGoodStepped (GoodWorld : World → Type 0) (GoodVerdict : Verdict → Type 0) (GoodReply : Reply → Type 0) (s : Stepped) : Type 0 where
-  pub world : GoodWorld s.world
-  pub checks : AllByRecursion GoodVerdict s.checks
-  pub reply : GoodReply s.reply
+-- what a step leaves is plain
+pub record IsPlainStepped (table : List (List ℕ)) (s : Stepped) : Type 0 where
+  pub world : IsPlainWorld table s.world
+  pub checks : AllByRecursion (IsPlainVerdict table) s.checks
+  pub reply : IsPlainReply s.reply
 
--- a call that is stopped leaves the good world as it was
-stepped_is_good : (GoodWorld : World → Type 0) (GoodVerdict : Verdict → Type 0) (GoodReply : Reply → Type 0) (w : World) (e : Effect)
-    (checks : List Verdict) (stop : Option Reply) → GoodWorld w → IsGoodEffect GoodWorld GoodReply e → AllByRecursion GoodVerdict checks
-    → IfSome stop GoodReply → IsGoodStepped GoodWorld GoodVerdict GoodReply (stepped w e checks stop)
-stepped_is_good GoodWorld GoodVerdict GoodReply w e checks None good done checked stopped =
-    record { world = done.world; checks = checked; reply = done.reply }
-stepped_is_good GoodWorld GoodVerdict GoodReply w e checks (Some reply) good done checked stopped =
-    record { world = good; checks = checked; reply = stopped }
+-- a call that is stopped leaves the plain world as it was
+stepped_is_plain : (table : List (List ℕ)) (w : World) (e : Effect) (checks : List Verdict) (stop : Option Reply) → IsPlainWorld table w
+    → IsPlainEffect table e → AllByRecursion (IsPlainVerdict table) checks → IfSome stop IsPlainReply → IsPlainStepped table (stepped w e checks stop)
+stepped_is_plain table w e checks None plain done checked stopped = record { world = done.world; checks = checked; reply = done.reply }
+stepped_is_plain table w e checks (Some reply) plain done checked stopped = record { world = plain; checks = checked; reply = stopped }
 
--- a call of good parts with a good effect has a good step, where the verdicts on good labels are good
-pub step_is_good : (GoodLabel : LabelId → Type 0) (GoodWorld : World → Type 0) (GoodVerdict : Verdict → Type 0) (GoodReply : Reply → Type 0)
-    → ((v : Verdict) → GoodVerdict v → GoodReply (Denied v.case)) → (w : World) (version : Ruling) (call : Call)
-    → ((o : LabelId) (m : Modes) → GoodLabel o → GoodVerdict (verdict_of w version o m))
-    → AllByRecursion (IsGoodAsk GoodLabel GoodReply) (asks w version call) → GoodWorld w → IsGoodEffect GoodWorld GoodReply (effect w version call)
-    → IsGoodStepped GoodWorld GoodVerdict GoodReply (step w version call)
-step_is_good GoodLabel GoodWorld GoodVerdict GoodReply denies w version call judged parts good done =
-    let through = went_is_good GoodLabel GoodVerdict GoodReply denies (verdict_of w version) judged (asks w version call) parts in
-    stepped_is_good GoodWorld GoodVerdict GoodReply w (effect w version call) _ _ good done through.checks through.stop
+-- a call of plain parts with a plain effect has a plain step, where the verdicts of plain questions are plain
+pub step_by_parts : (table : List (List ℕ)) (w : World) (version : Ruling) (task : ℕ) (call : Call)
+    → ((q : Question) → IsPlainQuestion table q → IsPlainVerdict table (verdict_of w version task q))
+    → AllByRecursion (IsPlainPart table) (asks w version task call) → IsPlainWorld table w → IsPlainEffect table (effect w version task call)
+    → IsPlainStepped table (step w version task call)
+step_by_parts table w version task call judged parts plain done =
+    let through = went_is_plain table (verdict_of w version task) judged (asks w version task call) parts in
+    stepped_is_plain table w (effect w version task call) _ _ plain done through.checks through.stop

@@ -1,21 +1,25 @@
-use Rattle.std.specs.Prelude.{ℕ, List, [], ◌∷◌, ◌++◌, length, map, codes, decimal}
+use Rattle.std.specs.Prelude.{ℕ, List, [], ◌∷◌, ◌++◌, Option, length, map, codes}
 use Rattle.std.specs.List.{flat_map}
 use Rattle.smack_base.specs.declared.cap.Cap.{Cap}
 use Rattle.smack_base.specs.declared.cap.Cap.TheVariants.{MacAdmin, MacOverride, SysPtrace}
+use Rattle.smack_base.specs.declared.rule_op.Pair.{Pair}
 use Rattle.rules_spec.specs.declared.Verdict.{Verdict}
 use Rattle.world_spec.specs.declared.TaskCall.{TaskCall}
-use Rattle.world_spec.specs.declared.TaskCall.TheVariants.{Relabel, DropCap}
+use Rattle.world_spec.specs.declared.TaskCall.TheVariants.{Fork, Exit, Relabel, DropCap, SelfRules, Relabels, Kill, Take, TraceRead, TraceAttach}
 use Rattle.world_spec.specs.declared.TreeCall.{TreeCall}
 use Rattle.world_spec.specs.declared.TreeCall.TheVariants.{Create, Unlink, ListDir}
 use Rattle.world_spec.specs.declared.Call.{Call}
 use Rattle.world_spec.specs.declared.Call.TheVariants.{Task, Tree}
 use Rattle.world_spec.specs.declared.Why.{Why}
-use Rattle.world_spec.specs.declared.Why.TheVariants.{Exists, IsRoot, NotDirectory, NotPrivileged, NoSuchName, TreeFull}
+use Rattle.world_spec.specs.declared.Why.TheVariants.{Exists, IsRoot, NotDirectory, NotPrivileged, NoSuchTask, NoSuchName, Range, Again, TasksFull, SelfFull, RelabelFull, TreeFull}
 use Rattle.world_spec.specs.declared.Reply.{Reply}
-use Rattle.world_spec.specs.declared.Reply.TheVariants.{Ok as Done, Names, Denied, Refused}
+use Rattle.world_spec.specs.declared.Reply.TheVariants.{Ok as Done, Child, Signal, Names, Denied, Refused}
 use Rattle.world_spec.specs.declared.Entry.{Entry}
-use Rattle.record_spec.specs.Words.{line, name_at, call_number, version_word, triple, decision}
-use Rattle.record_spec.specs.Audits.{audit_lines}
+use Rattle.log_spec.specs.declared.Action.{Action}
+use Rattle.log_spec.specs.Numerals.{numeral}
+use Rattle.log_spec.specs.Words.{line, name_at, call_number, version_word, triple, decision}
+use Rattle.log_spec.specs.Audits.{audit_lines}
+use Rattle.record_spec.specs.Tasks.{task_name}
 
 -- a path: each of its names behind a slash, and the root as one slash
 abbrev pub path_text : List (List ℕ) → List ℕ
@@ -30,8 +34,16 @@ cap_text SysPtrace = codes "sys-ptrace"
 
 -- the verb of a call
 abbrev pub task_verb : TaskCall → List ℕ
+task_verb (Fork pid) = codes "fork"
+task_verb Exit = codes "exit"
 task_verb (Relabel l) = codes "relabel"
 task_verb (DropCap cap) = codes "drop"
+task_verb (SelfRules rules) = codes "self"
+task_verb (Relabels labels) = codes "relabels"
+task_verb (Kill pid sig) = codes "kill"
+task_verb Take = codes "take"
+task_verb (TraceRead pid) = codes "trace"
+task_verb (TraceAttach pid) = codes "trace"
 
 abbrev pub tree_verb : TreeCall → List ℕ
 tree_verb (Create path) = codes "create"
@@ -42,25 +54,40 @@ abbrev pub call_verb : Call → List ℕ
 call_verb (Task call) = task_verb call
 call_verb (Tree call) = tree_verb call
 
--- the words of a call behind its verb
-abbrev pub task_words : List (List ℕ) → TaskCall → List (List ℕ)
-task_words labels (Relabel l) = name_at labels l ∷ []
-task_words labels (DropCap cap) = cap_text cap ∷ []
+-- the words of self rules, one after the other
+abbrev pub rule_words : List (List ℕ) → List Pair → List (List ℕ)
+rule_words labels rules = flat_map (λ p. triple labels p.s p.o p.m) rules
+
+-- the words of a call behind its verb, by the texts of the labels and the names of the tasks
+abbrev pub task_words : List (List ℕ) → List (List ℕ) → TaskCall → List (List ℕ)
+task_words labels names (Fork pid) = task_name names pid ∷ []
+task_words labels names Exit = []
+task_words labels names (Relabel l) = name_at labels l ∷ []
+task_words labels names (DropCap cap) = cap_text cap ∷ []
+task_words labels names (SelfRules rules) = numeral (length rules) ∷ rule_words labels rules
+task_words labels names (Relabels list) = numeral (length list) ∷ map (name_at labels) list
+task_words labels names (Kill pid sig) = task_name names pid ∷ numeral sig ∷ []
+task_words labels names Take = []
+task_words labels names (TraceRead pid) = codes "read" ∷ task_name names pid ∷ []
+task_words labels names (TraceAttach pid) = codes "attach" ∷ task_name names pid ∷ []
 
 abbrev pub tree_words : TreeCall → List (List ℕ)
 tree_words (Create path) = path_text path ∷ []
 tree_words (Unlink path) = path_text path ∷ []
-tree_words (ListDir path at) = path_text path ∷ decimal at ∷ []
+tree_words (ListDir path at) = path_text path ∷ numeral at ∷ []
 
-abbrev pub call_words : List (List ℕ) → Call → List (List ℕ)
-call_words labels (Task call) = task_words labels call
-call_words labels (Tree call) = tree_words call
+abbrev pub call_words : List (List ℕ) → List (List ℕ) → Call → List (List ℕ)
+call_words labels names (Task call) = task_words labels names call
+call_words labels names (Tree call) = tree_words call
+
+-- a call as words, the verb first
+abbrev pub verb_words : List (List ℕ) → List (List ℕ) → Call → List (List ℕ)
+verb_words labels names call = call_verb call ∷ call_words labels names call
 
 -- the call, its place among all calls, and the version that it was judged in
-abbrev pub entry_head : List (List ℕ) → ℕ → Entry → List ℕ
-entry_head labels place e =
-    line (codes "h")
-    (decimal place ∷ call_number e.task e.seq ∷ version_word e.version ∷ call_verb e.call ∷ call_words labels e.call)
+abbrev pub entry_head : List (List ℕ) → List (List ℕ) → ℕ → Entry → List ℕ
+entry_head labels names place e =
+    line (codes "h") (numeral place ∷ call_number e.task e.seq ∷ version_word e.version ∷ verb_words labels names e.call)
 
 -- a verdict that was asked
 abbrev pub check_line : List (List ℕ) → Verdict → List ℕ
@@ -72,21 +99,29 @@ why_text Exists = codes "exists"
 why_text IsRoot = codes "is-root"
 why_text NotDirectory = codes "not-directory"
 why_text NotPrivileged = codes "not-privileged"
+why_text NoSuchTask = codes "no-such-task"
 why_text NoSuchName = codes "no-such-name"
+why_text Range = codes "range"
+why_text Again = codes "again"
+why_text (TasksFull limit) = codes "tasks-full"
+why_text (SelfFull limit) = codes "self-full"
+why_text (RelabelFull limit) = codes "relabel-full"
 why_text (TreeFull limit) = codes "tree-full"
 
 -- the answer to a call
 abbrev pub reply_words : Reply → List (List ℕ)
 reply_words Done = codes "ok" ∷ []
-reply_words (Names count names) = codes "names" ∷ decimal count ∷ decimal (length names) ∷ names
-reply_words (Denied case) = codes "denied" ∷ decimal case ∷ []
+reply_words (Child k) = codes "child" ∷ numeral k ∷ []
+reply_words (Signal sig) = codes "signal" ∷ numeral sig ∷ []
+reply_words (Names count names) = codes "names" ∷ numeral count ∷ numeral (length names) ∷ names
+reply_words (Denied case) = codes "denied" ∷ numeral case ∷ []
 reply_words (Refused why) = why_text why ∷ []
 
 abbrev pub reply_line : Reply → List ℕ
 reply_line reply = line (codes "=") (reply_words reply)
 
--- a call, its checks, what is logged of them in a logging mode, and its reply
-abbrev pub entry_lines : List (List ℕ) → ℕ → ℕ → Entry → List (List ℕ)
-entry_lines labels mode place e =
-    entry_head labels place e ∷ map (check_line labels) e.checks ++ audit_lines labels mode (call_verb e.call) e.checks
+-- a call, its checks, what the system's log says of them, by what each is logged as, and its reply
+abbrev pub entry_lines : List (List ℕ) → List (List ℕ) → (Verdict → Option Action) → ℕ → Entry → List (List ℕ)
+entry_lines labels names action place e =
+    entry_head labels names place e ∷ map (check_line labels) e.checks ++ audit_lines labels action (call_verb e.call) e.checks
     ++ reply_line e.reply ∷ []

@@ -1,10 +1,4 @@
-pub mod Words
-pub mod Audits
+pub mod Tasks
 pub mod Entries
 pub mod Refusals
 pub mod Show
-pub mod Calls
-pub mod Plain
-pub mod Fits
-pub mod Replays
-pub mod Laws

@@ -1,15 +1,18 @@
-use Rattle.std.specs.Prelude.{ℕ, ◌+◌, List, [], ◌∷◌, ◌++◌, length, map, take, codes, decimal, slice_index_or}
+use Rattle.std.specs.Prelude.{ℕ, ◌+◌, List, [], ◌∷◌, ◌++◌, length, map, codes}
 use Rattle.std.specs.List.{flat_map}
 use Rattle.smack_base.specs.declared.rule_op.RuleOp.{RuleOp}
 use Rattle.smack_base.specs.declared.rule_op.RuleOp.TheVariants.{Set, Change, Revoke, OnlyClear, OnlyAdd, Ambient, Ptrace, Logging}
 use Rattle.smack_base.specs.Modes.{letters_of}
 use Rattle.rules_spec.specs.declared.Batch.{Batch}
-use Rattle.rules_spec.specs.Versions.{logging}
 use Rattle.record_spec.specs.declared.AskedLine.{AskedLine}
 use Rattle.record_spec.specs.declared.AskedWhat.{AskedWhat}
-use Rattle.record_spec.specs.declared.AskedWhat.TheVariants.{Ask, Refused}
+use Rattle.record_spec.specs.declared.AskedWhat.TheVariants.{Ask, Refused, Wait}
 use Rattle.record_spec.specs.declared.RunRecord.{RunRecord}
-use Rattle.record_spec.specs.Words.{line, name_at, call_number, version_word, triple, decision}
+use Rattle.world_spec.specs.Replays.{version_of}
+use Rattle.log_spec.specs.Numerals.{numeral}
+use Rattle.log_spec.specs.Audits.{action_of}
+use Rattle.log_spec.specs.Words.{line, name_at, call_number, version_word, triple, decision}
+use Rattle.record_spec.specs.Tasks.{task_name, run_tasks}
 use Rattle.record_spec.specs.Entries.{entry_lines}
 use Rattle.record_spec.specs.Refusals.{refusal_words}
 
@@ -21,15 +24,15 @@ op_words labels (Revoke s) = codes "revoke" ∷ name_at labels s ∷ []
 op_words labels OnlyClear = codes "only-clear" ∷ []
 op_words labels (OnlyAdd l) = codes "only-add" ∷ name_at labels l ∷ []
 op_words labels (Ambient l) = codes "ambient" ∷ name_at labels l ∷ []
-op_words labels (Ptrace n) = codes "ptrace" ∷ decimal n ∷ []
-op_words labels (Logging n) = codes "logging" ∷ decimal n ∷ []
+op_words labels (Ptrace n) = codes "ptrace" ∷ numeral n ∷ []
+op_words labels (Logging n) = codes "logging" ∷ numeral n ∷ []
 
 abbrev pub op_line : List (List ℕ) → RuleOp → List ℕ
 op_line labels op = line (codes "o") (op_words labels op)
 
 -- the version that a batch makes, the call that published it, and how many writes it has
 abbrev pub batch_head : ℕ → Batch → List ℕ
-batch_head version b = line (codes "j") (decimal version ∷ call_number b.task b.seq ∷ decimal (length b.ops) ∷ [])
+batch_head version b = line (codes "j") (numeral version ∷ call_number b.task b.seq ∷ numeral (length b.ops) ∷ [])
 
 -- a batch that makes this version
 abbrev pub batch_lines : List (List ℕ) → ℕ → Batch → List (List ℕ)
@@ -39,53 +42,57 @@ batch_lines labels version b = batch_head version b ∷ map (op_line labels) b.o
 abbrev pub asked_head : AskedLine → List (List ℕ)
 asked_head a = call_number a.task a.seq ∷ version_word a.version ∷ []
 
--- what was asked
-abbrev pub what_words : List (List ℕ) → AskedWhat → List (List ℕ)
-what_words labels (Ask v) = codes "ask" ∷ triple labels v.subject v.object v.modes
-what_words labels (Refused file fault) = codes "write" ∷ file ∷ []
+-- what was asked, which file was written, or which task was waited for
+abbrev pub what_words : List (List ℕ) → List (List ℕ) → AskedWhat → List (List ℕ)
+what_words labels names (Ask v) = codes "ask" ∷ triple labels v.subject v.object v.modes
+what_words labels names (Refused file fault) = codes "write" ∷ file ∷ []
+what_words labels names (Wait pid) = codes "wait" ∷ task_name names pid ∷ []
 
 -- what was answered
 abbrev pub answer_words : AskedWhat → List (List ℕ)
 answer_words (Ask v) = decision v
 answer_words (Refused file fault) = refusal_words fault
+answer_words (Wait pid) = codes "ok" ∷ []
 
--- an asked or refused line and its answer
-abbrev pub asked_lines : List (List ℕ) → AskedLine → List (List ℕ)
-asked_lines labels a = line (codes "q") (asked_head a ++ what_words labels a.what) ∷ line (codes "=") (answer_words a.what) ∷ []
+-- an asked, refused or waited line and its answer
+abbrev pub asked_lines : List (List ℕ) → List (List ℕ) → AskedLine → List (List ℕ)
+asked_lines labels names a =
+    line (codes "q") (asked_head a ++ what_words labels names a.what) ∷ line (codes "=") (answer_words a.what) ∷ []
 
 -- the lines of some items, each by its place, of which the first has this one
 abbrev pub lines_in_turn : {X : Type 0} → (ℕ → X → List (List ℕ)) → ℕ → List X → List (List ℕ)
 lines_in_turn f place [] = []
 lines_in_turn f place (x ∷ xs) = f place x ++ lines_in_turn f (place + 1) xs
 
--- batches by the version that each makes, object calls by their place among them, asked and refused lines
+-- batches by the version that each makes, object calls by their place among them, and the other lines
 abbrev pub journal_lines : RunRecord → List (List ℕ)
 journal_lines r = lines_in_turn (batch_lines r.labels) 1 r.journal
 
--- the logging mode of a version of a journal
-abbrev pub mode_of : List Batch → ℕ → ℕ
-mode_of journal version = logging (take version journal)
-
+-- a version beyond the last batch is that of the whole journal
 abbrev pub history_lines : RunRecord → List (List ℕ)
-history_lines r = lines_in_turn (λ place e. entry_lines r.labels (mode_of r.journal e.version) place e) 1 r.history
+history_lines r = lines_in_turn (λ place e. entry_lines r.labels r.names (action_of (version_of r.journal e.version)) place e) 1 r.history
 
 abbrev pub question_lines : RunRecord → List (List ℕ)
-question_lines r = lines_in_turn (λ place a. asked_lines r.labels a) 1 r.asked
+question_lines r = lines_in_turn (λ place a. asked_lines r.labels r.names a) 1 r.asked
 
 abbrev pub first_line : List ℕ
 first_line = line (codes "smack") (codes "1" ∷ [])
 
 abbrev pub task_line : ℕ → List ℕ → List ℕ
-task_line task name = line (codes "task") (decimal task ∷ name ∷ [])
+task_line task name = line (codes "task") (numeral task ∷ name ∷ [])
 
--- the numbers of batches, of object calls and of asked and refused lines
+-- the numbers of batches, of object calls and of the other lines
 abbrev pub end_line : RunRecord → List ℕ
 end_line r =
-    line (codes "end") (decimal (length r.journal) ∷ decimal (length r.history) ∷ decimal (length r.asked) ∷ [])
+    line (codes "end") (numeral (length r.journal) ∷ numeral (length r.history) ∷ numeral (length r.asked) ∷ [])
+
+-- the tasks of the run by rising number
+abbrev pub task_lines : RunRecord → List (List ℕ)
+task_lines r = map (λ t. task_line t.number (task_name r.names t.pid)) (run_tasks r.history)
 
 -- the format, and the tasks
 abbrev pub head_lines : RunRecord → List (List ℕ)
-head_lines r = first_line ∷ task_line 0 (slice_index_or r.names 0 []) ∷ []
+head_lines r = first_line ∷ task_lines r
 
 -- the lines of a record, each with its line feed
 abbrev pub record_lines : RunRecord → List (List ℕ)

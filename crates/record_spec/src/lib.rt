@@ -1,29 +1,29 @@
-//! What records mean: all that a run leaves, its text, and the record that the replay of a script
-//! leaves. Plain data; the definitions stand in `specs/`.
+//! What records mean: all that a run leaves, and its text. Plain data; the definitions stand in
+//! `specs/`.
 //!
-//! `Show` is the text of a record, line by line, `Entries` that of an object call with its checks,
-//! its audit lines (`Audits`) and its reply, and `Refusals` that of a refused write. `Calls` says
-//! which object call a line of a script makes. `Replays` takes the lines of a script in written
-//! order, each judged at the newest version, and says which record that makes. `Plain` and `Fits`
-//! say what stands in records that scripts leave, and `Laws` what follows for their texts.
+//! `Tasks` reads off the object calls which tasks a run had. `Show` is the text of a record, line by
+//! line, `Entries` that of an object call with its checks, the lines of the system's log and its
+//! reply, and `Refusals` that of a refused write.
 #![tactic(auto)]
 
+use file_spec::Refusal;
 use label_table::Labels;
 use rules_spec::{Journal, Verdict};
-use script_spec::Refusal;
-use smack_base::{Bytes, NameList, Sequence};
+use smack_base::{Bytes, NameList, Pid, Sequence};
 use world_spec::Trail;
 
-/// What a line that is no object call asked, with its answer.
+/// What a line that is neither a batch nor an object call did, with its answer.
 #[derive(Debug, Drop)]
 pub enum AskedWhat {
     /// A question on a subject, an object and modes.
     Ask(Verdict),
     /// A write to a smackfs file that was refused.
     Refused { file: Bytes, fault: Refusal },
+    /// A task waited for the end of the task with this pid.
+    Wait { pid: Pid },
 }
 
-/// A line that is no object call.
+/// A line that is neither a batch nor an object call.
 #[derive(Debug, Drop)]
 pub struct AskedLine {
     /// The number of the task, from 0.
@@ -36,7 +36,7 @@ pub struct AskedLine {
     pub what: AskedWhat,
 }
 
-/// Lines that are no object calls, by rising task number and then call number.
+/// Asked, refused and waited lines, by rising task number and then call number.
 pub type AskedLines = Sequence<AskedLine>;
 
 /// All that a run leaves.
@@ -50,6 +50,15 @@ pub struct RunRecord {
     pub journal: Journal,
     /// The object calls.
     pub history: Trail,
-    /// The asked lines.
+    /// The asked, refused and waited lines.
     pub asked: AskedLines,
+}
+
+/// A task of a run.
+#[derive(Clone, Copy, Debug, PartialEq, Eq)]
+pub struct NumberedTask {
+    /// The number that the run gave it, from 0.
+    pub number: u16,
+    /// The caller's name for it.
+    pub pid: Pid,
 }

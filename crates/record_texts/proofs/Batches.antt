@@ -1,23 +1,20 @@
-use Rattle.std.proofs.Common.{◌≡◌, ℕ, length, map, codes, decimal, List, [], ◌∷◌, ◌++◌, refl, sym, ap, ◌∙◌, append_assoc}
+use Rattle.std.proofs.Common.{◌≡◌, ℕ, length, map, codes, List, [], ◌∷◌, ◌++◌, refl, sym, ap, ◌∙◌, append_assoc}
 use Rattle.rules_spec.specs.declared.Batch.{Batch}
-use Rattle.record_spec.specs.Words.{call_number}
+use Rattle.log_spec.specs.Numerals.{numeral}
+use Rattle.log_spec.specs.Words.{call_number}
 use Rattle.record_spec.specs.Show.{joined, op_line, batch_head, batch_lines}
-use Rattle.record_spec.specs.Plain.{IsLabelTable, IsPlainOp, IsPlainBatch}
-use Rattle.record_spec.specs.Fits.{FitsBatch}
+use Rattle.text_spec.specs.Names.{IsLabelTable}
+use Rattle.replay_spec.specs.Plain.{IsPlainOp, IsPlainBatch}
 use Rattle.record_texts.proofs.Clean.{AreClean}
 use Rattle.record_texts.proofs.Cut.{cut_line}
 use Rattle.record_texts.proofs.Turns.{Tells, BeginsNot, turns, first_byte, turns_tell, each_is_turn}
-use Rattle.record_texts.proofs.Decimals.{decimal_clean, call_number_clean, call_number_told}
+use Rattle.record_texts.proofs.Numbers.{numeral_clean, call_number_clean, call_number_told}
 use Rattle.record_texts.proofs.Told.{word_at}
 use Rattle.record_texts.proofs.RuleWrites.{op_told}
 
 -- the byte with which each rule write begins
 abbrev pub write_tag : ℕ
 write_tag = first_byte (codes "o")
-
--- what a batch has to be, to be told by its text
-abbrev pub IsToldBatch : List (List ℕ) → Batch → Type 0
-IsToldBatch labels b = IsPlainBatch labels b × FitsBatch b
 
 abbrev pub batch_text : List (List ℕ) → ℕ → Batch → List ℕ
 batch_text labels version b = joined (batch_lines labels version b)
@@ -26,10 +23,10 @@ abbrev writes_text : List (List ℕ) → Batch → List ℕ
 writes_text labels b = turns (λ n op. op_line labels op) 1 b.ops
 
 abbrev head_words : ℕ → Batch → List (List ℕ)
-head_words version b = decimal version ∷ call_number b.task b.seq ∷ decimal (length b.ops) ∷ []
+head_words version b = numeral version ∷ call_number b.task b.seq ∷ numeral (length b.ops) ∷ []
 
 head_clean : (version : ℕ) (b : Batch) → AreClean (head_words version b)
-head_clean version b = (decimal_clean version, (call_number_clean b.task b.seq, (decimal_clean (length b.ops), tt)))
+head_clean version b = (numeral_clean version, (call_number_clean b.task b.seq, (numeral_clean (length b.ops), tt)))
 
 module _ (labels : List (List ℕ)) (table : IsLabelTable labels) where
   -- a batch: its head and its rule writes
@@ -39,11 +36,11 @@ module _ (labels : List (List ℕ)) (table : IsLabelTable labels) where
       ∙ ap (λ t. batch_head version b ++ (t ++ rest)) (each_is_turn (op_line labels) 1 b.ops)
 
   -- a printed batch tells it, where no rule write stands behind it
-  pub batch_told : (version : ℕ) → Tells (IsToldBatch labels) (BeginsNot write_tag) (batch_text labels version)
+  pub batch_told : (version : ℕ) → Tells (IsPlainBatch labels) (BeginsNot write_tag) (batch_text labels version)
   batch_told version x y r s plain plain' ends ends' same =
       let head = cut_line (codes "j") (head_words version x) (head_words version y) (writes_text labels x ++ r) (writes_text labels y ++ s) refl
       (head_clean version x) (head_clean version y) (sym (batch_is version x r) ∙ same ∙ batch_is version y s) in
-      let number = call_number_told x.task y.task x.seq y.seq plain.1.0 plain'.1.0 plain.1.1 plain'.1.1 (ap (word_at 1) head.0) in
+      let number = call_number_told x.task y.task x.seq y.seq (ap (word_at 1) head.0) in
       let writes = turns_tell (IsPlainOp labels) (λ t. Unit {0}) (λ n op. op_line labels op) write_tag (λ n op t. refl) (λ n op t. tt) (λ n. op_told labels table)
-      1 x.ops y.ops r s plain.0 plain'.0 tt tt ends ends' head.1 in
+      1 x.ops y.ops r s plain plain' tt tt ends ends' head.1 in
       ((λ i. record { task = number.0 i; seq = number.1 i; ops = writes.0 i }), writes.1)

@@ -1,148 +1,155 @@
-use Rattle.std.proofs.Common.{◌≡◌, ℕ, Bool, true, false, ◌&&◌, cond, nat_lt, codes, if◌then◌else◌, List, ◌∷◌, Option, Some, None, Result, Ok, Err, option_map, refl, sym, ap, subst, arith}
-use Rattle.std.specs.Result.{result_ok}
-use Rattle.std.proofs.lemmas.Bool.{and_parts, ltb-true}
+use Rattle.std.proofs.Common.{◌≡◌, ℕ, true, if◌then◌else◌, length, map, drop, codes, List, [], ◌∷◌, Option, Some, refl, ap, ap₂}
+use Rattle.std.specs.List.{AllByRecursion}
+use Rattle.smack_base.specs.Modes.{modes_of}
 use Rattle.smack_base.specs.declared.cap.Cap.{Cap}
 use Rattle.smack_base.specs.declared.cap.Cap.TheVariants.{MacAdmin, MacOverride, SysPtrace}
-use Rattle.smack_base.specs.Paths.{path_of}
-use Rattle.text_spec.specs.Names.{id_of}
-use Rattle.label_table.proofs.Places.{id_is_named}
-use Rattle.script_spec.specs.declared.TaskVerb.{TaskVerb}
-use Rattle.script_spec.specs.declared.TaskVerb.TheVariants.{Relabel as RelabelVerb, Drop}
-use Rattle.script_spec.specs.declared.TreeVerb.{TreeVerb}
-use Rattle.script_spec.specs.declared.TreeVerb.TheVariants.{Create as CreateVerb, Unlink as UnlinkVerb, List as ListVerb}
-use Rattle.script_spec.specs.declared.Verb.{Verb}
-use Rattle.script_spec.specs.declared.Verb.TheVariants.{Write, Ask as AskVerb, Task as OnTask, Tree as OnTree}
-use Rattle.script_spec.specs.Words.{verb_of, cap_of, number_of, is_decimal, value_from}
-use Rattle.script_spec.specs.Grammar.{ScriptLine}
-use Rattle.world_spec.specs.declared.TaskCall.{TaskCall}
-use Rattle.world_spec.specs.declared.TaskCall.TheVariants.{Relabel, DropCap}
-use Rattle.world_spec.specs.declared.TreeCall.{TreeCall}
+use Rattle.smack_base.specs.declared.ids.LabelId.{LabelId}
+use Rattle.smack_base.specs.declared.rule_op.Pair.{Pair}
+use Rattle.script_spec.specs.declared.TraceWay.TheVariants.{Read, Attach}
+use Rattle.script_spec.specs.Words.{absent, cap_of}
+use Rattle.script_spec.specs.Lines.{ScriptLine}
+use Rattle.world_spec.specs.declared.TaskCall.TheVariants.{Fork, Exit, Relabel, DropCap, SelfRules, Relabels, Kill, Take, TraceRead, TraceAttach}
 use Rattle.world_spec.specs.declared.TreeCall.TheVariants.{Create, Unlink, ListDir}
 use Rattle.world_spec.specs.declared.Call.{Call}
 use Rattle.world_spec.specs.declared.Call.TheVariants.{Task, Tree}
-use Rattle.record_spec.specs.Calls.{task_call, tree_call, listing}
-use Rattle.record_spec.specs.Entries.{cap_text, call_verb, call_words}
-use Rattle.record_spec.specs.Plain.{IsLabelTable, HasId, call_by, IsPlainCall}
-use Rattle.record_spec.specs.Fits.{Fits}
-use Rattle.record_texts.proofs.Clean.{AreClean}
-use Rattle.record_texts.proofs.Decimals.{number_in, number_read, decimal_clean}
-use Rattle.record_texts.proofs.Told.{told, word_at, begins_with, label_in, label_read, name_clean}
-use Rattle.record_texts.proofs.Paths.{IsReadPath, path_from, path_read, path_clean}
+use Rattle.log_spec.specs.Words.{name_at}
+use Rattle.log_spec.specs.Audits.{is_word}
+use Rattle.record_spec.specs.Entries.{cap_text, rule_words, call_verb, call_words, verb_words}
+use Rattle.replay_spec.specs.Calls.{of_one, of_two, traced, call_of_line}
+use Rattle.text_spec.specs.Names.{IsLabelTable}
+use Rattle.replay_spec.specs.Plain.{IsNameTable, HasId, IsPlainCall}
+use Rattle.replay_spec.proofs.KnownLabels.{IsKnownPair}
+use Rattle.replay_spec.proofs.ReadCalls.{IsReadCall, plain_is_read}
+use Rattle.record_texts.proofs.Clean.{is_clean, AreClean, name_bytes_clean, word_bytes}
+use Rattle.record_texts.proofs.Numbers.{numeral_clean, number_again, signal_again}
+use Rattle.record_texts.proofs.Letters.{modes_read, modes_clean}
+use Rattle.record_texts.proofs.Told.{told_where_read, begins_with, label_in, label_read, label_again, task_again, name_clean, named_clean}
+use Rattle.record_texts.proofs.Paths.{path_again, path_clean}
 
--- the words of a call are words of a script
-abbrev IsReadTask : List (List ℕ) → TaskCall → Type 0
-IsReadTask labels (Relabel l) = HasId labels l
-IsReadTask labels (DropCap cap) = Unit {0}
+-- a line of a script with these words behind its task
+abbrev line_of : List (List ℕ) → ScriptLine
+line_of ws = record { task = 0; seq = 0; line = 0; words = map (λ w. record { at = 0; bytes = w }) ws; text = absent }
 
-abbrev IsReadTree : TreeCall → Type 0
-IsReadTree (Create path) = IsReadPath path
-IsReadTree (Unlink path) = IsReadPath path
-IsReadTree (ListDir path at) = IsReadPath path × Fits at
+-- the self rules that words are, three words each
+abbrev rules_in : List (List ℕ) → List (List ℕ) → List Pair
+rules_in labels (s ∷ o ∷ m ∷ ws) = (record { s = label_in labels s; o = label_in labels o; m = modes_of m }) ∷ rules_in labels ws
+rules_in labels (s ∷ o ∷ []) = []
+rules_in labels (s ∷ []) = []
+rules_in labels [] = []
 
-abbrev IsReadCall : List (List ℕ) → Call → Type 0
-IsReadCall labels (Task call) = IsReadTask labels call
-IsReadCall labels (Tree call) = IsReadTree call
+-- The call that some words are: that of a line with these words, but for the calls that are texts of files.
+abbrev call_in : List (List ℕ) → List (List ℕ) → List (List ℕ) → Option Call
+call_in labels names ws =
+    if begins_with (codes "self") ws then Some (Task (SelfRules (rules_in labels (drop 2 ws))))
+    else (if begins_with (codes "relabels") ws then Some (Task (Relabels (map (label_in labels) (drop 2 ws))))
+    else call_of_line labels names (line_of ws))
 
--- what holds of each mapped value holds of the value that is told
-from_mapped : {A B : Type 0} (P : B → Type 0) (f : A → B) (o : Option A) (b : B) → ((a : A) → o ≡ Some a → P (f a)) → option_map f o ≡ Some b → P b
-from_mapped P f None b each same = absurd cc
-from_mapped P f (Some a) b each same = let is : f a ≡ b = cc in subst P is (each a refl)
+-- a call is read back from its words: the verb is a word, and the others have no space and no line feed
+pub record IsToldCall (labels names : List (List ℕ)) (call : Call) : Type 0 where
+  pub again : call_in labels names (verb_words labels names call) ≡ Some call
+  pub verb : is_word (call_verb call) ≡ true
+  pub words : AreClean (call_words labels names call)
 
--- what a word gives: a path, or a number
-path_is_read : (text : List ℕ) (path : List (List ℕ)) → result_ok (path_of text) ≡ Some path → IsReadPath path
-path_is_read text path same = (text, by (path_of text) same)
-  where
-    by : {F : Type 0} (r : Result (List (List ℕ)) F) → result_ok r ≡ Some path → r ≡ Ok path
-    by (Ok names) same = let is : names ≡ path = cc in ap (λ n. Ok n) is
-    by (Err f) same = cc
+cap_again : (cap : Cap) → cap_of (cap_text cap) ≡ Some cap
+cap_again MacAdmin = refl
+cap_again MacOverride = refl
+cap_again SysPtrace = refl
 
-number_fits : (text : List ℕ) (n : ℕ) → number_of text ≡ Some n → Fits n
-number_fits text n same = by (is_decimal text && nat_lt (value_from 0 text) 4294967296) refl same
-  where
-    by : (fits : Bool) → (is_decimal text && nat_lt (value_from 0 text) 4294967296) ≡ fits → cond fits (Some (value_from 0 text)) None ≡ Some n → Fits n
-    by true fits same =
-        let is : value_from 0 text ≡ n = cc in
-        let below = ltb-true (value_from 0 text) 4294967296 (and_parts (is_decimal text) (nat_lt (value_from 0 text) 4294967296) fits).1 in
-        omega (arith, is, below)
-    by false fits same = cc
+cap_clean : (cap : Cap) → is_clean (cap_text cap) ≡ true
+cap_clean MacAdmin = refl
+cap_clean MacOverride = refl
+cap_clean SysPtrace = refl
 
--- a call that a line gives is of words that are read
-task_is_read : (labels : List (List ℕ)) (l : ScriptLine) (verb : TaskVerb) (call : TaskCall) → task_call labels l verb ≡ Some call → IsReadTask labels call
-task_is_read labels l RelabelVerb call same =
-    from_mapped (IsReadTask labels) (λ label. Relabel label) (id_of labels l.one.bytes) call (λ label is. (id_is_named labels l.one.bytes label.0 (sym is)).0) same
-task_is_read labels l Drop call same = from_mapped (IsReadTask labels) (λ cap. DropCap cap) (cap_of l.one.bytes) call (λ cap is. tt) same
+module _ (labels names : List (List ℕ)) (table : IsLabelTable labels) (tasks : IsNameTable names) where
+  rules_read : (rules : List Pair) → AllByRecursion (IsKnownPair labels) rules → rules_in labels (rule_words labels rules) ≡ rules
+  rules_read [] known = refl
+  rules_read (p ∷ ps) known =
+      λ i. (record { s = label_read labels table p.s known.0.0 i; o = label_read labels table p.o known.0.1 i; m = modes_read p.m i })
+      ∷ rules_read ps known.1 i
 
-listing_is_read : (path : Option (List (List ℕ))) (at : Option ℕ) (call : TreeCall) → ((names : List (List ℕ)) → path ≡ Some names → IsReadPath names)
-    → ((n : ℕ) → at ≡ Some n → Fits n) → listing path at ≡ Some call → IsReadTree call
-listing_is_read (Some path) (Some at) call read fits same =
-    let is : ListDir path at ≡ call = cc in subst IsReadTree is (read path refl, fits at refl)
-listing_is_read (Some path) None call read fits same = absurd cc
-listing_is_read None at call read fits same = absurd cc
+  rules_clean : (rules : List Pair) → AllByRecursion (IsKnownPair labels) rules → AreClean (rule_words labels rules)
+  rules_clean [] known = tt
+  rules_clean (p ∷ ps) known =
+      (name_clean labels table p.s known.0.0, (name_clean labels table p.o known.0.1, (modes_clean p.m, rules_clean ps known.1)))
 
-tree_is_read : (l : ScriptLine) (verb : TreeVerb) (call : TreeCall) → tree_call l verb ≡ Some call → IsReadTree call
-tree_is_read l CreateVerb call same = from_mapped IsReadTree (λ path. Create path) (result_ok (path_of l.one.bytes)) call (path_is_read l.one.bytes) same
-tree_is_read l UnlinkVerb call same = from_mapped IsReadTree (λ path. Unlink path) (result_ok (path_of l.one.bytes)) call (path_is_read l.one.bytes) same
-tree_is_read l ListVerb call same =
-    listing_is_read (result_ok (path_of l.one.bytes)) (number_of l.two.bytes) call (path_is_read l.one.bytes) (number_fits l.two.bytes) same
+  labels_read : (list : List LabelId) → AllByRecursion (HasId labels) list → map (label_in labels) (map (name_at labels) list) ≡ list
+  labels_read [] known = refl
+  labels_read (l ∷ ls) known = λ i. label_read labels table l known.0 i ∷ labels_read ls known.1 i
 
-call_is_read : (labels : List (List ℕ)) (l : ScriptLine) (verb : Option Verb) (call : Call) → call_by labels l verb ≡ Some call → IsReadCall labels call
-call_is_read labels l None call same = absurd cc
-call_is_read labels l (Some Write) call same = absurd cc
-call_is_read labels l (Some AskVerb) call same = absurd cc
-call_is_read labels l (Some (OnTask verb)) call same =
-    from_mapped (IsReadCall labels) (λ c. Task c) (task_call labels l verb) call (task_is_read labels l verb) same
-call_is_read labels l (Some (OnTree verb)) call same = from_mapped (IsReadCall labels) (λ c. Tree c) (tree_call l verb) call (tree_is_read l verb) same
+  labels_clean : (list : List LabelId) → AllByRecursion (HasId labels) list → AreClean (map (name_at labels) list)
+  labels_clean [] known = tt
+  labels_clean (l ∷ ls) known = (name_clean labels table l known.0, labels_clean ls known.1)
 
-abbrev or_first : Option Cap → Cap
-or_first None = MacAdmin
-or_first (Some cap) = cap
+  -- a row for each call
+  read_is_told : (call : Call) → IsReadCall labels names call → IsToldCall labels names call
+  read_is_told (Task (Fork pid)) read = record {
+    again = ap (λ o. of_one (of_one o (λ p. Fork p)) (λ c. Task c)) (task_again names tasks pid read);
+    verb = refl;
+    words = (named_clean names tasks pid read, tt);
+  }
+  read_is_told (Task Exit) read = record { again = refl; verb = refl; words = tt }
+  read_is_told (Task (Relabel l)) read = record {
+    again = ap (λ o. of_one (of_one o (λ x. Relabel x)) (λ c. Task c)) (label_again labels table l read);
+    verb = refl;
+    words = (name_clean labels table l read, tt);
+  }
+  read_is_told (Task (DropCap cap)) read = record {
+    again = ap (λ o. of_one (of_one o (λ x. DropCap x)) (λ c. Task c)) (cap_again cap);
+    verb = refl;
+    words = (cap_clean cap, tt);
+  }
+  read_is_told (Task (SelfRules rules)) read = record {
+    again = λ i. Some (Task (SelfRules (rules_read rules read i)));
+    verb = refl;
+    words = (numeral_clean (length rules), rules_clean rules read);
+  }
+  read_is_told (Task (Relabels list)) read = record {
+    again = λ i. Some (Task (Relabels (labels_read list read i)));
+    verb = refl;
+    words = (numeral_clean (length list), labels_clean list read);
+  }
+  read_is_told (Task (Kill pid sig)) read = record {
+    again = ap₂ (λ o n. of_one (of_two o n (λ p s. Kill p s)) (λ c. Task c)) (task_again names tasks pid read.0) (signal_again sig read.1);
+    verb = refl;
+    words = (named_clean names tasks pid read.0, (numeral_clean sig, tt));
+  }
+  read_is_told (Task Take) read = record { again = refl; verb = refl; words = tt }
+  read_is_told (Task (TraceRead pid)) read = record {
+    again = ap (λ o. of_one (of_two (Some Read) o traced) (λ c. Task c)) (task_again names tasks pid read);
+    verb = refl;
+    words = (refl, (named_clean names tasks pid read, tt));
+  }
+  read_is_told (Task (TraceAttach pid)) read = record {
+    again = ap (λ o. of_one (of_two (Some Attach) o traced) (λ c. Task c)) (task_again names tasks pid read);
+    verb = refl;
+    words = (refl, (named_clean names tasks pid read, tt));
+  }
+  read_is_told (Tree (Create path)) read = record {
+    again = ap (λ o. of_one (of_one o (λ p. Create p)) (λ c. Tree c)) (path_again path read);
+    verb = refl;
+    words = (path_clean path read, tt);
+  }
+  read_is_told (Tree (Unlink path)) read = record {
+    again = ap (λ o. of_one (of_one o (λ p. Unlink p)) (λ c. Tree c)) (path_again path read);
+    verb = refl;
+    words = (path_clean path read, tt);
+  }
+  read_is_told (Tree (ListDir path at)) read = record {
+    again = ap₂ (λ o n. of_one (of_two o n (λ p m. ListDir p m)) (λ c. Tree c)) (path_again path read.0) (number_again at read.1);
+    verb = refl;
+    words = (path_clean path read.0, (numeral_clean at, tt));
+  }
 
--- the capability that a word is
-abbrev cap_in : List ℕ → Cap
-cap_in text = or_first (cap_of text)
+  pub plain_is_told : (call : Call) → IsPlainCall labels names call → IsToldCall labels names call
+  plain_is_told call plain = read_is_told call (plain_is_read labels names call plain)
 
-cap_read : (cap : Cap) → cap_in (cap_text cap) ≡ cap
-cap_read MacAdmin = refl
-cap_read MacOverride = refl
-cap_read SysPtrace = refl
-
--- the verb of a call and its other words
-abbrev pub verb_words : List (List ℕ) → Call → List (List ℕ)
-verb_words labels call = call_verb call ∷ call_words labels call
-
--- the call that some words are
-abbrev call_in : List (List ℕ) → List (List ℕ) → Call
-call_in labels ws =
-    if begins_with (codes "relabel") ws then Task (Relabel (label_in labels (word_at 1 ws)))
-    else (if begins_with (codes "drop") ws then Task (DropCap (cap_in (word_at 1 ws)))
-    else (if begins_with (codes "create") ws then Tree (Create (path_from (word_at 1 ws)))
-    else (if begins_with (codes "unlink") ws then Tree (Unlink (path_from (word_at 1 ws)))
-    else Tree (ListDir (path_from (word_at 1 ws)) (number_in (word_at 2 ws))))))
-
-module _ (labels : List (List ℕ)) (table : IsLabelTable labels) where
-  -- a call is read back from its words, which have no space and no line feed
-  call_read : (call : Call) → IsReadCall labels call → call_in labels (verb_words labels call) ≡ call
-  call_read (Task (Relabel l)) read = λ i. Task (Relabel (label_read labels table l read i))
-  call_read (Task (DropCap cap)) read = λ i. Task (DropCap (cap_read cap i))
-  call_read (Tree (Create path)) read = λ i. Tree (Create (path_read path read i))
-  call_read (Tree (Unlink path)) read = λ i. Tree (Unlink (path_read path read i))
-  call_read (Tree (ListDir path at)) read = λ i. Tree (ListDir (path_read path read.0 i) (number_read at read.1 i))
-
-  read_clean : (call : Call) → IsReadCall labels call → AreClean (verb_words labels call)
-  read_clean (Task (Relabel l)) read = (refl, (name_clean labels table l read, tt))
-  read_clean (Task (DropCap MacAdmin)) read = (refl, (refl, tt))
-  read_clean (Task (DropCap MacOverride)) read = (refl, (refl, tt))
-  read_clean (Task (DropCap SysPtrace)) read = (refl, (refl, tt))
-  read_clean (Tree (Create path)) read = (refl, (path_clean path read, tt))
-  read_clean (Tree (Unlink path)) read = (refl, (path_clean path read, tt))
-  read_clean (Tree (ListDir path at)) read = (refl, (path_clean path read.0, (decimal_clean at, tt)))
-
-  pub call_clean : (call : Call) → IsPlainCall labels call → AreClean (verb_words labels call)
-  call_clean call plain = read_clean call (call_is_read labels plain.line (verb_of plain.line.verb.bytes) call plain.gives)
+  pub call_clean : (call : Call) → IsPlainCall labels names call → AreClean (verb_words labels names call)
+  call_clean call plain =
+      let told = plain_is_told call plain in
+      (name_bytes_clean (call_verb call) (word_bytes (call_verb call) told.verb), told.words)
 
   -- the words of a call tell it
-  pub call_told : (x y : Call) → IsPlainCall labels x → IsPlainCall labels y → verb_words labels x ≡ verb_words labels y → x ≡ y
+  pub call_told : (x y : Call) → IsPlainCall labels names x → IsPlainCall labels names y → verb_words labels names x ≡ verb_words labels names y
+      → x ≡ y
   call_told x y plain plain' same =
-      told (call_in labels) (verb_words labels) x y
-      (call_read x (call_is_read labels plain.line (verb_of plain.line.verb.bytes) x plain.gives))
-      (call_read y (call_is_read labels plain'.line (verb_of plain'.line.verb.bytes) y plain'.gives)) same
+      told_where_read (call_in labels names) (verb_words labels names) x y (plain_is_told x plain).again (plain_is_told y plain').again same

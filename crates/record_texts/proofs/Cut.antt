@@ -1,6 +1,6 @@
 use Rattle.std.proofs.Common.{◌≡◌, ◌<◌, ℕ, true, nat_le, List, [], ◌∷◌, ◌++◌, refl, sym, ap, ◌∙◌, append_assoc, arith}
 use Rattle.std.proofs.lemmas.Bool.{and_parts, leb-true}
-use Rattle.record_spec.specs.Words.{words, feed, line}
+use Rattle.log_spec.specs.Words.{words, feed, line}
 use Rattle.record_texts.proofs.Clean.{is_above, is_clean, AreClean}
 
 -- equal lists have equal heads and equal tails

@@ -3,12 +3,11 @@ use Rattle.smack_base.specs.declared.label.LabelFault.{LabelFault}
 use Rattle.smack_base.specs.declared.label.LabelFault.TheVariants.{Empty, TooLong as LongLabel, LeadingDash, BadByte}
 use Rattle.text_spec.specs.declared.LineFault.{LineFault}
 use Rattle.text_spec.specs.declared.LineFault.TheVariants.{Fields, Width, Subject, Object, Allow, Deny, Label, Number}
-use Rattle.script_spec.specs.declared.Refusal.{Refusal}
-use Rattle.script_spec.specs.declared.Refusal.TheVariants.{NoSuchFile, TooLong, BadLine as BadLineOf, UnknownLabel, NotPrivileged, JournalFull}
+use Rattle.file_spec.specs.declared.Refusal.{Refusal}
+use Rattle.file_spec.specs.declared.Refusal.TheVariants.{NoSuchFile, TooLong, BadLine as BadLineOf, UnknownLabel, NotPrivileged, JournalFull}
 use Rattle.record_spec.specs.Refusals.{label_fault_words, line_fault_words, refusal_words}
-use Rattle.record_spec.specs.Fits.{FitsLabelFault, FitsLineFault, FitsRefusal}
 use Rattle.record_texts.proofs.Clean.{AreClean}
-use Rattle.record_texts.proofs.Decimals.{number_in, number_read, decimal_clean}
+use Rattle.record_texts.proofs.Numbers.{number_in, number_read, numeral_clean}
 use Rattle.record_texts.proofs.Told.{word_at, begins_with}
 
 -- the fault of a label that some words are
@@ -19,17 +18,17 @@ label_fault_in ws =
     else (if begins_with (codes "dash") ws then LeadingDash
     else BadByte (number_in (word_at 1 ws))))
 
-label_fault_read : (f : LabelFault) → FitsLabelFault f → label_fault_in (label_fault_words f) ≡ f
-label_fault_read Empty fits = refl
-label_fault_read LongLabel fits = refl
-label_fault_read LeadingDash fits = refl
-label_fault_read (BadByte at) fits = λ i. BadByte (number_read at fits i)
+label_fault_read : (f : LabelFault) → label_fault_in (label_fault_words f) ≡ f
+label_fault_read Empty = refl
+label_fault_read LongLabel = refl
+label_fault_read LeadingDash = refl
+label_fault_read (BadByte at) = λ i. BadByte (number_read at i)
 
 label_fault_clean : (f : LabelFault) → AreClean (label_fault_words f)
 label_fault_clean Empty = (refl, tt)
 label_fault_clean LongLabel = (refl, tt)
 label_fault_clean LeadingDash = (refl, tt)
-label_fault_clean (BadByte at) = (refl, (decimal_clean at, tt))
+label_fault_clean (BadByte at) = (refl, (numeral_clean at, tt))
 
 -- the fault of a line that some words are
 abbrev line_fault_in : List (List ℕ) → LineFault
@@ -43,23 +42,23 @@ line_fault_in ws =
     else (if begins_with (codes "label") ws then Label (label_fault_in (drop 1 ws))
     else Number))))))
 
-line_fault_read : (f : LineFault) → FitsLineFault f → line_fault_in (line_fault_words f) ≡ f
-line_fault_read (Fields n) fits = λ i. Fields (number_read n fits i)
-line_fault_read (Width n) fits = λ i. Width (number_read n fits i)
-line_fault_read (Subject f) fits = λ i. Subject (label_fault_read f fits i)
-line_fault_read (Object f) fits = λ i. Object (label_fault_read f fits i)
-line_fault_read (Allow at) fits = λ i. Allow (number_read at fits i)
-line_fault_read (Deny at) fits = λ i. Deny (number_read at fits i)
-line_fault_read (Label f) fits = λ i. Label (label_fault_read f fits i)
-line_fault_read Number fits = refl
+line_fault_read : (f : LineFault) → line_fault_in (line_fault_words f) ≡ f
+line_fault_read (Fields n) = λ i. Fields (number_read n i)
+line_fault_read (Width n) = λ i. Width (number_read n i)
+line_fault_read (Subject f) = λ i. Subject (label_fault_read f i)
+line_fault_read (Object f) = λ i. Object (label_fault_read f i)
+line_fault_read (Allow at) = λ i. Allow (number_read at i)
+line_fault_read (Deny at) = λ i. Deny (number_read at i)
+line_fault_read (Label f) = λ i. Label (label_fault_read f i)
+line_fault_read Number = refl
 
 line_fault_clean : (f : LineFault) → AreClean (line_fault_words f)
-line_fault_clean (Fields n) = (refl, (decimal_clean n, tt))
-line_fault_clean (Width n) = (refl, (decimal_clean n, tt))
+line_fault_clean (Fields n) = (refl, (numeral_clean n, tt))
+line_fault_clean (Width n) = (refl, (numeral_clean n, tt))
 line_fault_clean (Subject f) = (refl, label_fault_clean f)
 line_fault_clean (Object f) = (refl, label_fault_clean f)
-line_fault_clean (Allow at) = (refl, (decimal_clean at, tt))
-line_fault_clean (Deny at) = (refl, (decimal_clean at, tt))
+line_fault_clean (Allow at) = (refl, (numeral_clean at, tt))
+line_fault_clean (Deny at) = (refl, (numeral_clean at, tt))
 line_fault_clean (Label f) = (refl, label_fault_clean f)
 line_fault_clean Number = (refl, tt)
 
@@ -74,18 +73,18 @@ refusal_in ws =
     else JournalFull (number_in (word_at 1 ws))))))
 
 -- a refusal is read back from its words, which have no space and no line feed
-pub refusal_read : (f : Refusal) → FitsRefusal f → refusal_in (refusal_words f) ≡ f
-refusal_read NoSuchFile fits = refl
-refusal_read TooLong fits = refl
-refusal_read (BadLineOf bad) fits = λ i. BadLineOf (record { line = number_read bad.line fits.0 i; fault = line_fault_read bad.fault fits.1 i })
-refusal_read (UnknownLabel line) fits = λ i. UnknownLabel (number_read line fits i)
-refusal_read NotPrivileged fits = refl
-refusal_read (JournalFull rows) fits = λ i. JournalFull (number_read rows fits i)
+pub refusal_read : (f : Refusal) → refusal_in (refusal_words f) ≡ f
+refusal_read NoSuchFile = refl
+refusal_read TooLong = refl
+refusal_read (BadLineOf bad) = λ i. BadLineOf (record { line = number_read bad.line i; fault = line_fault_read bad.fault i })
+refusal_read (UnknownLabel line) = λ i. UnknownLabel (number_read line i)
+refusal_read NotPrivileged = refl
+refusal_read (JournalFull rows) = λ i. JournalFull (number_read rows i)
 
 pub refusal_clean : (f : Refusal) → AreClean (refusal_words f)
 refusal_clean NoSuchFile = (refl, tt)
 refusal_clean TooLong = (refl, tt)
-refusal_clean (BadLineOf bad) = (refl, (decimal_clean bad.line, line_fault_clean bad.fault))
-refusal_clean (UnknownLabel line) = (refl, (decimal_clean line, tt))
+refusal_clean (BadLineOf bad) = (refl, (numeral_clean bad.line, line_fault_clean bad.fault))
+refusal_clean (UnknownLabel line) = (refl, (numeral_clean line, tt))
 refusal_clean NotPrivileged = (refl, tt)
-refusal_clean (JournalFull rows) = (refl, (decimal_clean rows, tt))
+refusal_clean (JournalFull rows) = (refl, (numeral_clean rows, tt))

@@ -2,7 +2,7 @@ use Rattle.std.proofs.Common.{◌≡◌, ℕ, Bool, true, false, ◌&&◌, ◌||
 use Rattle.std.proofs.lemmas.List.Folds.{list_any-append}
 use Rattle.smack_base.specs.declared.modes.Modes.{Modes}
 use Rattle.smack_base.specs.Modes.{letter_r, letter_w, letter_x, letter_a, letter_t, letter_b, is_either_case, has_letter, modes_of, when, or_dash, letters_of}
-use Rattle.record_spec.proofs.PrintedBytes.{letter_bytes}
+use Rattle.log_spec.proofs.PrintedBytes.{letter_bytes}
 use Rattle.record_texts.proofs.Clean.{is_clean, name_bytes_clean}
 
 -- what adding nothing to a test, and joining it with a known one, leaves of it

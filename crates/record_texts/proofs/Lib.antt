@@ -1,7 +1,7 @@
 pub mod Clean
 pub mod Cut
 pub mod Turns
-pub mod Decimals
+pub mod Numbers
 pub mod Letters
 pub mod Told
 pub mod RuleWrites

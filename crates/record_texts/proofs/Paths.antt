@@ -1,4 +1,4 @@
-use Rattle.std.proofs.Common.{◌≡◌, ℕ, ◌+◌, Bool, true, false, cond, nat_lt, length, map, codes, List, [], ◌∷◌, ◌++◌, Option, Some, None, Ok, Err, refl, sym, ap, ◌∙◌}
+use Rattle.std.proofs.Common.{◌≡◌, ℕ, ◌+◌, Bool, true, false, cond, nat_lt, length, map, codes, List, [], ◌∷◌, ◌++◌, Option, Some, None, Result, Ok, Err, refl, sym, ap, ◌∙◌}
 use Rattle.std.specs.List.{flat_map}
 use Rattle.std.specs.Result.{result_ok}
 use Rattle.std.proofs.lemmas.Bool.{eqb-true}
@@ -6,7 +6,9 @@ use Rattle.smack_base.specs.declared.path.PathFault.{PathFault}
 use Rattle.smack_base.specs.declared.path.PathFault.TheVariants.{NotAbsolute, TooDeep}
 use Rattle.smack_base.specs.Paths.{PathName, is_slash, in_first_name, names_from, name_fault, first_path_fault, unless_bad_name, names_of, path_of}
 use Rattle.record_spec.specs.Entries.{path_text}
-use Rattle.record_spec.proofs.PrintedBytes.{name_bytes}
+use Rattle.replay_spec.specs.Calls.{path_in}
+use Rattle.replay_spec.proofs.ReadCalls.{IsReadBy}
+use Rattle.log_spec.proofs.PrintedBytes.{name_bytes}
 use Rattle.record_texts.proofs.Clean.{is_clean, name_bytes_clean, clean_behind}
 use Rattle.record_texts.proofs.Cut.{same_parts}
 
@@ -80,22 +82,17 @@ printed_path (b ∷ bs) path is = by (is_slash b) refl is
     by true slash is = rw (eqb-true b 47 slash) (printed_behind bs path is)
     by false slash is = cc
 
--- some word is read as the path
-abbrev pub IsReadPath : List (List ℕ) → Type 0
-IsReadPath path = (text : List ℕ) × (path_of text ≡ Ok path)
+path_word : (text : List ℕ) (path : List (List ℕ)) → path_in text ≡ Some path → path_of text ≡ Ok path
+path_word text path is = by (path_of text) is
+  where
+    by : {F : Type 0} (r : Result (List (List ℕ)) F) → result_ok r ≡ Some path → r ≡ Ok path
+    by (Ok names) same = let is : names ≡ path = cc in ap (λ n. Ok n) is
+    by (Err f) same = cc
 
-or_root : Option (List (List ℕ)) → List (List ℕ)
-or_root None = []
-or_root (Some names) = names
+-- a path that a word is, printed, is read again
+pub path_again : (path : List (List ℕ)) → IsReadBy path_in path → path_in (path_text path) ≡ Some path
+path_again path read = ap path_in (printed_path read.0 path (path_word read.0 path read.1)).0 ∙ read.1
 
--- the path that a word is
-pub path_from : List ℕ → List (List ℕ)
-path_from text = or_root (result_ok (path_of text))
-
--- a printed path is read back
-pub path_read : (path : List (List ℕ)) → IsReadPath path → path_from (path_text path) ≡ path
-unfolding path_from or_root
-path_read path read = ap path_from (printed_path read.0 path read.1).0 ∙ ap (λ r. or_root (result_ok r)) read.1
-
-pub path_clean : (path : List (List ℕ)) → IsReadPath path → is_clean (path_text path) ≡ true
-path_clean path read = let printed = printed_path read.0 path read.1 in ap is_clean printed.0 ∙ printed.1
+pub path_clean : (path : List (List ℕ)) → IsReadBy path_in path → is_clean (path_text path) ≡ true
+path_clean path read =
+    let printed = printed_path read.0 path (path_word read.0 path read.1) in ap is_clean printed.0 ∙ printed.1

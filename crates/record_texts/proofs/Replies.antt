@@ -1,20 +1,18 @@
-use Rattle.std.proofs.Common.{◌≡◌, ℕ, true, nat_le, length, drop, codes, if◌then◌else◌, List, [], ◌∷◌, refl, sym}
-use Rattle.std.specs.List.{AllByRecursion, list_all}
-use Rattle.std.proofs.lemmas.Bool.{and_parts}
-use Rattle.smack_base.specs.Paths.{is_name_byte}
+use Rattle.std.proofs.Common.{◌≡◌, ℕ, true, drop, length, codes, if◌then◌else◌, List, [], ◌∷◌, refl, sym}
+use Rattle.std.specs.List.{AllByRecursion}
+use Rattle.rules_spec.specs.Creds.{most_self_rules, most_relabels}
 use Rattle.world_spec.specs.declared.Why.{Why}
-use Rattle.world_spec.specs.declared.Why.TheVariants.{Exists, IsRoot, NotDirectory, NotPrivileged, NoSuchName, TreeFull}
+use Rattle.world_spec.specs.declared.Why.TheVariants.{Exists, IsRoot, NotDirectory, NotPrivileged, NoSuchTask, NoSuchName, Range, Again, TasksFull, SelfFull, RelabelFull, TreeFull}
 use Rattle.world_spec.specs.declared.Reply.{Reply}
-use Rattle.world_spec.specs.declared.Reply.TheVariants.{Ok as Done, Names, Denied, Refused}
-use Rattle.world_spec.specs.Worlds.{most_nodes}
-use Rattle.record_spec.specs.Audits.{is_word}
+use Rattle.world_spec.specs.declared.Reply.TheVariants.{Ok as Done, Child, Signal, Names, Denied, Refused}
+use Rattle.world_spec.specs.Worlds.{most_tasks, most_nodes}
+use Rattle.log_spec.specs.Audits.{is_word}
 use Rattle.record_spec.specs.Entries.{reply_words, reply_line}
-use Rattle.record_spec.specs.Plain.{IsPlainReply}
-use Rattle.record_spec.specs.Fits.{FitsReply}
-use Rattle.record_texts.proofs.Clean.{AreClean, name_bytes_clean}
+use Rattle.replay_spec.specs.Plain.{IsPlainWhy, IsPlainReply}
+use Rattle.record_texts.proofs.Clean.{AreClean, name_bytes_clean, word_bytes}
 use Rattle.record_texts.proofs.Cut.{cut_line}
 use Rattle.record_texts.proofs.Turns.{Tells}
-use Rattle.record_texts.proofs.Decimals.{number_in, number_read, decimal_clean}
+use Rattle.record_texts.proofs.Numbers.{number_in, number_read, numeral_clean}
 use Rattle.record_texts.proofs.Told.{told, word_at, begins_with}
 
 -- the refusal that some words are
@@ -24,47 +22,62 @@ why_in ws =
     else (if begins_with (codes "is-root") ws then IsRoot
     else (if begins_with (codes "not-directory") ws then NotDirectory
     else (if begins_with (codes "not-privileged") ws then NotPrivileged
+    else (if begins_with (codes "no-such-task") ws then NoSuchTask
     else (if begins_with (codes "no-such-name") ws then NoSuchName
-    else TreeFull most_nodes))))
+    else (if begins_with (codes "range") ws then Range
+    else (if begins_with (codes "again") ws then Again
+    else (if begins_with (codes "tasks-full") ws then TasksFull most_tasks
+    else (if begins_with (codes "self-full") ws then SelfFull most_self_rules
+    else (if begins_with (codes "relabel-full") ws then RelabelFull most_relabels
+    else TreeFull most_nodes))))))))))
 
 -- the reply that some words are
 abbrev reply_in : List (List ℕ) → Reply
 reply_in ws =
     if begins_with (codes "ok") ws then Done
+    else (if begins_with (codes "child") ws then Child (number_in (word_at 1 ws))
+    else (if begins_with (codes "signal") ws then Signal (number_in (word_at 1 ws))
     else (if begins_with (codes "names") ws then Names (number_in (word_at 1 ws)) (drop 3 ws)
     else (if begins_with (codes "denied") ws then Denied (number_in (word_at 1 ws))
-    else Refused (why_in ws)))
+    else Refused (why_in ws)))))
 
 -- a reply is read back from its words, which have no space and no line feed
-reply_read : (reply : Reply) → IsPlainReply reply → FitsReply reply → reply_in (reply_words reply) ≡ reply
-reply_read Done plain fits = refl
-reply_read (Names count names) plain fits = λ i. Names (number_read count fits i) names
-reply_read (Denied case) plain fits = λ i. Denied (number_read case fits i)
-reply_read (Refused Exists) plain fits = refl
-reply_read (Refused IsRoot) plain fits = refl
-reply_read (Refused NotDirectory) plain fits = refl
-reply_read (Refused NotPrivileged) plain fits = refl
-reply_read (Refused NoSuchName) plain fits = refl
-reply_read (Refused (TreeFull limit)) plain fits = λ i. Refused (TreeFull (sym plain i))
+record IsToldReply (reply : Reply) : Type 0 where
+  again : reply_in (reply_words reply) ≡ reply
+  words : AreClean (reply_words reply)
 
 words_clean : (texts : List (List ℕ)) → AllByRecursion (λ text. is_word text ≡ true) texts → AreClean texts
 words_clean [] are = tt
-words_clean (t ∷ ts) are =
-    (name_bytes_clean t (and_parts (nat_le 1 (length t)) (list_all is_name_byte t) are.0).1, words_clean ts are.1)
+words_clean (t ∷ ts) are = (name_bytes_clean t (word_bytes t are.0), words_clean ts are.1)
 
-reply_clean : (reply : Reply) → IsPlainReply reply → AreClean (reply_words reply)
-reply_clean Done plain = (refl, tt)
-reply_clean (Names count names) plain = (refl, (decimal_clean count, (decimal_clean (length names), words_clean names plain)))
-reply_clean (Denied case) plain = (refl, (decimal_clean case, tt))
-reply_clean (Refused Exists) plain = (refl, tt)
-reply_clean (Refused IsRoot) plain = (refl, tt)
-reply_clean (Refused NotDirectory) plain = (refl, tt)
-reply_clean (Refused NotPrivileged) plain = (refl, tt)
-reply_clean (Refused NoSuchName) plain = (refl, tt)
-reply_clean (Refused (TreeFull limit)) plain = (refl, tt)
+-- a row for each refusal, and for each reply
+refused_is_told : (why : Why) → IsPlainWhy why → IsToldReply (Refused why)
+refused_is_told Exists plain = record { again = refl; words = (refl, tt) }
+refused_is_told IsRoot plain = record { again = refl; words = (refl, tt) }
+refused_is_told NotDirectory plain = record { again = refl; words = (refl, tt) }
+refused_is_told NotPrivileged plain = record { again = refl; words = (refl, tt) }
+refused_is_told NoSuchTask plain = record { again = refl; words = (refl, tt) }
+refused_is_told NoSuchName plain = record { again = refl; words = (refl, tt) }
+refused_is_told Range plain = record { again = refl; words = (refl, tt) }
+refused_is_told Again plain = record { again = refl; words = (refl, tt) }
+refused_is_told (TasksFull limit) plain = record { again = λ i. Refused (TasksFull (sym plain i)); words = (refl, tt) }
+refused_is_told (SelfFull limit) plain = record { again = λ i. Refused (SelfFull (sym plain i)); words = (refl, tt) }
+refused_is_told (RelabelFull limit) plain = record { again = λ i. Refused (RelabelFull (sym plain i)); words = (refl, tt) }
+refused_is_told (TreeFull limit) plain = record { again = λ i. Refused (TreeFull (sym plain i)); words = (refl, tt) }
+
+reply_is_told : (reply : Reply) → IsPlainReply reply → IsToldReply reply
+reply_is_told Done plain = record { again = refl; words = (refl, tt) }
+reply_is_told (Child k) plain = record { again = λ i. Child (number_read k i); words = (refl, (numeral_clean k, tt)) }
+reply_is_told (Signal sig) plain = record { again = λ i. Signal (number_read sig i); words = (refl, (numeral_clean sig, tt)) }
+reply_is_told (Names count names) plain = record {
+  again = λ i. Names (number_read count i) names;
+  words = (refl, (numeral_clean count, (numeral_clean (length names), words_clean names plain)));
+}
+reply_is_told (Denied case) plain = record { again = λ i. Denied (number_read case i); words = (refl, (numeral_clean case, tt)) }
+reply_is_told (Refused why) plain = refused_is_told why plain
 
 -- a printed reply tells it
-pub reply_told : Tells (λ reply. IsPlainReply reply × FitsReply reply) (λ r. Unit {0}) reply_line
+pub reply_told : Tells IsPlainReply (λ r. Unit {0}) reply_line
 reply_told x y r s plain plain' ends ends' same =
-    let cut = cut_line (codes "=") (reply_words x) (reply_words y) r s refl (reply_clean x plain.0) (reply_clean y plain'.0) same in
-    (told reply_in reply_words x y (reply_read x plain.0 plain.1) (reply_read y plain'.0 plain'.1) cut.0, cut.1)
+    let cut = cut_line (codes "=") (reply_words x) (reply_words y) r s refl (reply_is_told x plain).words (reply_is_told y plain').words same in
+    (told reply_in reply_words x y (reply_is_told x plain).again (reply_is_told y plain').again cut.0, cut.1)

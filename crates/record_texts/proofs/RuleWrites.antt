@@ -1,13 +1,14 @@
-use Rattle.std.proofs.Common.{◌≡◌, ℕ, List, codes, if◌then◌else◌, refl, arith}
+use Rattle.std.proofs.Common.{◌≡◌, ℕ, List, codes, if◌then◌else◌, refl}
 use Rattle.smack_base.specs.Modes.{modes_of}
 use Rattle.smack_base.specs.declared.rule_op.RuleOp.{RuleOp}
 use Rattle.smack_base.specs.declared.rule_op.RuleOp.TheVariants.{Set, Change, Revoke, OnlyClear, OnlyAdd, Ambient, Ptrace, Logging}
 use Rattle.record_spec.specs.Show.{op_words, op_line}
-use Rattle.record_spec.specs.Plain.{IsLabelTable, IsPlainOp}
+use Rattle.text_spec.specs.Names.{IsLabelTable}
+use Rattle.replay_spec.specs.Plain.{IsPlainOp}
 use Rattle.record_texts.proofs.Clean.{AreClean}
 use Rattle.record_texts.proofs.Cut.{cut_line}
 use Rattle.record_texts.proofs.Turns.{Tells}
-use Rattle.record_texts.proofs.Decimals.{number_in, number_read, decimal_clean}
+use Rattle.record_texts.proofs.Numbers.{number_in, number_read, numeral_clean}
 use Rattle.record_texts.proofs.Letters.{modes_read, modes_clean}
 use Rattle.record_texts.proofs.Told.{told, word_at, begins_with, label_in, label_read, name_clean}
 
@@ -32,8 +33,8 @@ module _ (labels : List (List ℕ)) (table : IsLabelTable labels) where
   op_read OnlyClear plain = refl
   op_read (OnlyAdd l) plain = λ i. OnlyAdd (label_read labels table l plain i)
   op_read (Ambient l) plain = λ i. Ambient (label_read labels table l plain i)
-  op_read (Ptrace n) plain = λ i. Ptrace (number_read n (omega (arith, plain)) i)
-  op_read (Logging n) plain = λ i. Logging (number_read n (omega (arith, plain)) i)
+  op_read (Ptrace n) plain = λ i. Ptrace (number_read n i)
+  op_read (Logging n) plain = λ i. Logging (number_read n i)
 
   op_clean : (op : RuleOp) → IsPlainOp labels op → AreClean (op_words labels op)
   op_clean (Set s o m) plain = (refl, (name_clean labels table s plain.0, (name_clean labels table o plain.1, (modes_clean m, tt))))
@@ -43,8 +44,8 @@ module _ (labels : List (List ℕ)) (table : IsLabelTable labels) where
   op_clean OnlyClear plain = (refl, tt)
   op_clean (OnlyAdd l) plain = (refl, (name_clean labels table l plain, tt))
   op_clean (Ambient l) plain = (refl, (name_clean labels table l plain, tt))
-  op_clean (Ptrace n) plain = (refl, (decimal_clean n, tt))
-  op_clean (Logging n) plain = (refl, (decimal_clean n, tt))
+  op_clean (Ptrace n) plain = (refl, (numeral_clean n, tt))
+  op_clean (Logging n) plain = (refl, (numeral_clean n, tt))
 
   -- a printed rule write tells it
   pub op_told : Tells (IsPlainOp labels) (λ r. Unit {0}) (op_line labels)

@@ -59,7 +59,8 @@ pub each_is_turn : {X : Type 0} (f : X → List ℕ) (place : ℕ) (xs : List X)
 each_is_turn f place [] = refl
 each_is_turn f place (x ∷ xs) = λ i. f x ++ each_is_turn f (place + 1) xs i
 
--- what holds of all and what else holds of all holds of each
-pub all_both : {X : Type 0} (P Q : X → Type 0) (xs : List X) → AllByRecursion P xs → AllByRecursion Q xs → AllByRecursion (λ x. P x × Q x) xs
-all_both P Q [] all also = tt
-all_both P Q (x ∷ xs) all also = ((all.0, also.0), all_both P Q xs all.1 also.1)
+-- items of one line, by the words of the line
+pub mapped_turns : {X Y : Type 0} (f : Y → List ℕ) (words : X → Y) (place : ℕ) (xs : List X)
+    → joined (map (λ x. f (words x)) xs) ≡ turns (λ n y. f y) place (map words xs)
+mapped_turns f words place [] = refl
+mapped_turns f words place (x ∷ xs) = λ i. f (words x) ++ mapped_turns f words (place + 1) xs i

@@ -1,16 +1,17 @@
-use Rattle.std.proofs.Common.{◌≡◌, ℕ, Bool, true, false, ◌==◌, if◌then◌else◌, List, [], ◌∷◌, ◌++◌, codes, decimal, refl, sym, arith}
+use Rattle.std.proofs.Common.{◌≡◌, ℕ, Bool, true, false, ◌==◌, if◌then◌else◌, List, [], ◌∷◌, ◌++◌, codes, refl, sym}
 use Rattle.std.specs.Str.{bytes_eq}
 use Rattle.std.proofs.lemmas.Bool.{eqb-true}
 use Rattle.smack_base.specs.Modes.{modes_of}
 use Rattle.rules_spec.specs.declared.Verdict.{Verdict}
-use Rattle.record_spec.specs.Words.{triple, over_words, decision}
+use Rattle.log_spec.specs.Numerals.{numeral}
+use Rattle.log_spec.specs.Words.{triple, over_words, decision}
 use Rattle.record_spec.specs.Entries.{check_line}
-use Rattle.record_spec.specs.Plain.{IsLabelTable, IsPlainVerdict}
-use Rattle.record_spec.specs.Fits.{Fits, FitsVerdict}
+use Rattle.text_spec.specs.Names.{IsLabelTable}
+use Rattle.replay_spec.specs.Plain.{IsPlainVerdict}
 use Rattle.record_texts.proofs.Clean.{is_clean, AreClean}
 use Rattle.record_texts.proofs.Cut.{cut_line}
 use Rattle.record_texts.proofs.Turns.{Tells}
-use Rattle.record_texts.proofs.Decimals.{number_in, number_read, decimal_clean}
+use Rattle.record_texts.proofs.Numbers.{number_in, number_read, numeral_clean}
 use Rattle.record_texts.proofs.Letters.{modes_read, modes_clean}
 use Rattle.record_texts.proofs.Told.{told, word_at, label_in, label_read, name_clean}
 
@@ -35,12 +36,12 @@ allowed_read true = refl
 allowed_read false = refl
 
 -- where no case is printed that was gone over, there is none
-over_read : (n : ℕ) → Fits n → number_in (word_at 1 (over_words n)) ≡ n
-over_read n fits = by (n == 0) refl
+over_read : (n : ℕ) → number_in (word_at 1 (over_words n)) ≡ n
+over_read n = by (n == 0) refl
   where
-    by : (none : Bool) → (n == 0) ≡ none → number_in (word_at 1 (if none then [] else codes "over" ∷ decimal n ∷ [])) ≡ n
+    by : (none : Bool) → (n == 0) ≡ none → number_in (word_at 1 (if none then [] else codes "over" ∷ numeral n ∷ [])) ≡ n
     by true is = sym (eqb-true n 0 is)
-    by false is = number_read n fits
+    by false is = number_read n
 
 -- the words of a decision have no space and no line feed
 decided_clean : (allowed : Bool) → is_clean (if allowed then codes "allow" else codes "deny") ≡ true
@@ -50,27 +51,24 @@ decided_clean false = refl
 over_clean : (n : ℕ) → AreClean (over_words n)
 over_clean n = by (n == 0)
   where
-    by : (none : Bool) → AreClean (if none then [] else codes "over" ∷ decimal n ∷ [])
+    by : (none : Bool) → AreClean (if none then [] else codes "over" ∷ numeral n ∷ [])
     by true = tt
-    by false = (refl, (decimal_clean n, tt))
+    by false = (refl, (numeral_clean n, tt))
 
 pub decision_clean : (v : Verdict) → AreClean (decision v)
-decision_clean v = (decided_clean v.allowed, (decimal_clean v.case, over_clean v.over))
+decision_clean v = (decided_clean v.allowed, (numeral_clean v.case, over_clean v.over))
 
 module _ (labels : List (List ℕ)) (table : IsLabelTable labels) where
   -- a verdict is read back from its words
-  pub verdict_read : (v : Verdict) → IsPlainVerdict labels v → FitsVerdict v → verdict_in labels (verdict_words labels v) ≡ v
-  verdict_read v plain fits =
-      let case : Fits v.case = omega (arith, fits.0) in
-      let over : Fits v.over = omega (arith, fits.1) in
-      λ i. record {
-        allowed = allowed_read v.allowed i;
-        case = number_read v.case case i;
-        over = over_read v.over over i;
-        subject = label_read labels table v.subject plain.subject i;
-        object = label_read labels table v.object plain.object i;
-        modes = modes_read v.modes i;
-      }
+  pub verdict_read : (v : Verdict) → IsPlainVerdict labels v → verdict_in labels (verdict_words labels v) ≡ v
+  verdict_read v plain = λ i. record {
+    allowed = allowed_read v.allowed i;
+    case = number_read v.case i;
+    over = over_read v.over i;
+    subject = label_read labels table v.subject plain.subject i;
+    object = label_read labels table v.object plain.object i;
+    modes = modes_read v.modes i;
+  }
 
   pub triple_clean : (v : Verdict) → IsPlainVerdict labels v → AreClean (triple labels v.subject v.object v.modes)
   triple_clean v plain = (name_clean labels table v.subject plain.subject, (name_clean labels table v.object plain.object, (modes_clean v.modes, tt)))
@@ -79,7 +77,7 @@ module _ (labels : List (List ℕ)) (table : IsLabelTable labels) where
   verdict_clean v plain = let front = triple_clean v plain in (front.0, (front.1.0, (front.1.1.0, decision_clean v)))
 
   -- a printed check tells it
-  pub check_told : Tells (λ v. IsPlainVerdict labels v × FitsVerdict v) (λ r. Unit {0}) (check_line labels)
+  pub check_told : Tells (IsPlainVerdict labels) (λ r. Unit {0}) (check_line labels)
   check_told x y r s plain plain' ends ends' same =
-      let cut = cut_line (codes "c") (verdict_words labels x) (verdict_words labels y) r s refl (verdict_clean x plain.0) (verdict_clean y plain'.0) same in
-      (told (verdict_in labels) (verdict_words labels) x y (verdict_read x plain.0 plain.1) (verdict_read y plain'.0 plain'.1) cut.0, cut.1)
+      let cut = cut_line (codes "c") (verdict_words labels x) (verdict_words labels y) r s refl (verdict_clean x plain) (verdict_clean y plain') same in
+      (told (verdict_in labels) (verdict_words labels) x y (verdict_read x plain) (verdict_read y plain') cut.0, cut.1)

@@ -4,6 +4,7 @@ use Rattle.std.proofs.lemmas.Bool.{cases_Bool, lt-ltb, le-ltb, ltb-true, ltb-fal
 use Rattle.std.proofs.lemmas.Grind.{fold-append}
 use Rattle.rules_spec.specs.declared.Batch.{Batch}
 use Rattle.rules_spec.specs.Versions.{after_logging, writes}
+use Rattle.log_spec.specs.Audits.{selected_as}
 use Rattle.record_spec.specs.declared.RunRecord.{RunRecord}
 use Rattle.record_spec.specs.Entries.{entry_lines}
 use Rattle.record_spec.specs.Show.{lines_in_turn, history_lines}
@@ -44,6 +45,6 @@ mode_is mode (b ∷ bs) (suc version) =
 
 -- the object calls are printed by the logging modes of their versions
 pub history_by_modes : (r : RunRecord)
-    → lines_in_turn (λ place e. entry_lines r.labels (mode_in (modes_from 1 r.journal) e.version) place e) 1 r.history ≡ history_lines r
+    → lines_in_turn (λ place e. entry_lines r.labels r.names (selected_as (mode_in (modes_from 1 r.journal) e.version)) place e) 1 r.history ≡ history_lines r
 history_by_modes r =
-    λ i. lines_in_turn (λ place e. entry_lines r.labels (mode_is 1 r.journal e.version i) place e) 1 r.history
+    λ i. lines_in_turn (λ place e. entry_lines r.labels r.names (selected_as (mode_is 1 r.journal e.version i)) place e) 1 r.history

@@ -20,7 +20,7 @@ asked_text r = joined (question_lines r)
 
 -- what is to be written behind each part
 abbrev after_asked : RunRecord → List ℕ
-after_asked r = end_line r ++ []
+after_asked r = joined (end_line r ∷ []) ++ []
 
 abbrev after_history : RunRecord → List ℕ
 after_history r = asked_text r ++ after_asked r
@@ -33,7 +33,7 @@ after_head r = journal_text r ++ after_journal r
 
 -- the parts of a text, in the order in which they are written
 parts : (h j e q : List (List ℕ)) (end : List ℕ)
-    → joined (h ++ j ++ e ++ q ++ end ∷ []) ≡ joined h ++ (joined j ++ (joined e ++ (joined q ++ (end ++ []))))
+    → joined (h ++ j ++ e ++ q ++ end ∷ []) ≡ joined h ++ (joined j ++ (joined e ++ (joined q ++ (joined (end ∷ []) ++ []))))
 parts h j e q end = simp (append_assoc, joined-append) refl
 
 show_parts : (r : RunRecord) → show r ≡ head_text r ++ after_head r
@@ -52,7 +52,7 @@ history_ends r a b c w front = wrote_front a b c _ _ _ _ w refl front
 pub asked_ends : (r : RunRecord) (a b c : Option (List ℕ)) → Wrote a b (show r) (after_history r) → AppendsFront b c (asked_text r) → AppendsFront a c (show r)
 asked_ends r a b c w front = wrote_front a b c _ _ _ _ w refl front
 
-pub end_ends : (r : RunRecord) (a b c : Option (List ℕ)) → Wrote a b (show r) (after_asked r) → AppendsFront b c (end_line r) → AppendsFront a c (show r)
+pub end_ends : (r : RunRecord) (a b c : Option (List ℕ)) → Wrote a b (show r) (after_asked r) → AppendsFront b c (joined (end_line r ∷ [])) → AppendsFront a c (show r)
 end_ends r a b c w front = wrote_front a b c _ _ _ _ w refl front
 
 -- a part was written
@@ -68,5 +68,5 @@ wrote_history r a b c w history = wrote_more a b c _ _ _ _ w refl history
 pub wrote_asked : (r : RunRecord) (a b c : Option (List ℕ)) → Wrote a b (show r) (after_history r) → Appends b c (asked_text r) → Wrote a c (show r) (after_asked r)
 wrote_asked r a b c w asked = wrote_more a b c _ _ _ _ w refl asked
 
-pub all_written : (r : RunRecord) (a b c : Option (List ℕ)) → Wrote a b (show r) (after_asked r) → Appends b c (end_line r) → Appends a c (show r)
+pub all_written : (r : RunRecord) (a b c : Option (List ℕ)) → Wrote a b (show r) (after_asked r) → Appends b c (joined (end_line r ∷ [])) → Appends a c (show r)
 all_written r a b c w end = wrote_all a c (show r) (wrote_more a b c _ _ _ _ w refl end)

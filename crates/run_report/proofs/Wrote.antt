@@ -1,5 +1,5 @@
 use Rattle.std.proofs.Common.{◌≡◌, ℕ, List, [], ◌++◌, sym, ap, ◌∙◌, refl, append_assoc}
-use Rattle.std.specs.Prelude.{Option}
+use Rattle.std.specs.Prelude.{Option, Result, Ok, Err, OnOk, OnErr}
 use Rattle.std.proofs.lemmas.List.{append-nil}
 use Rattle.outside.specs.Sink.{Appends, AppendsFront}
 use Rattle.outside.proofs.Appending.{appends_nothing, appends_more, appends_front_more, appends_front_of_more}
@@ -34,3 +34,17 @@ wrote_stop a b whole rest w = (w.front, rest, w.is, w.taken)
 
 pub wrote_all : (a b : Option (List ℕ)) (whole : List ℕ) → Wrote a b whole [] → Appends a b whole
 wrote_all a b whole w = rw (w.is, append-nil w.front) w.taken
+
+-- what holds of an answer's fault, where it holds whatever the answer is
+pub at_fault : {A E : Type 0} (r : Result A E) (P : Type 0) → P → OnErr r P
+at_fault (Ok x) P p = tt
+at_fault (Err e) P p = p
+
+-- what follows from what an answer promises where it is Ok, and where it is a fault
+pub then_ok : {A E : Type 0} (r : Result A E) (P Q : Type 0) → (P → Q) → OnOk r P → OnOk r Q
+then_ok (Ok x) P Q f p = f p
+then_ok (Err e) P Q f p = tt
+
+pub then_fault : {A E : Type 0} (r : Result A E) (P Q : Type 0) → (P → Q) → OnErr r P → OnErr r Q
+then_fault (Ok x) P Q f p = tt
+then_fault (Err e) P Q f p = f p

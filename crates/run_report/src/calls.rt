@@ -1,11 +1,11 @@
-ghost use Rattle.std.specs.Prelude.{◌≡◌, ◌++◌, codes, OnOk};
+ghost use Rattle.std.specs.Prelude.{◌≡◌, ◌++◌, map, codes, OnOk};
 ghost use Rattle.std.specs.List.{flat_map};
-ghost use Rattle.record_spec.specs.Words.{word, words};
-ghost use Rattle.record_spec.specs.Entries.{path_text, cap_text as text_of_cap, task_verb as verb_of_task_call, tree_verb as verb_of_tree_call, call_verb as verb_of_call, task_words, tree_words, call_words, why_text as text_of_why, reply_words};
+ghost use Rattle.log_spec.specs.Words.{word, words, name_at};
+ghost use Rattle.record_spec.specs.Entries.{path_text, cap_text as text_of_cap, task_verb as verb_of_task_call, tree_verb as verb_of_tree_call, call_verb as verb_of_call, rule_words, task_words, tree_words, verb_words, why_text as text_of_why, reply_words};
 
-use crate::words::{put_label, put_number, put_numbered, put_word};
+use crate::words::{put_label, put_number, put_numbered, put_triple, put_word, task_name};
 use label_table::Labels;
-use smack_base::{Bytes, Cap, Path};
+use smack_base::{Bytes, Cap, LabelId, Pair, Path};
 use std::alloc::AllocError;
 use world_spec::{Call, Reply, TaskCall, TreeCall, Why};
 
@@ -55,8 +55,16 @@ fn task_verb(call: &TaskCall) -> &'static [u8]
     ensures { result.now ≡ verb_of_task_call call.now }
 {
     match call {
+        TaskCall::Fork { pid: _ } => b"fork",
+        TaskCall::Exit => b"exit",
         TaskCall::Relabel { l: _ } => b"relabel",
         TaskCall::DropCap { cap: _ } => b"drop",
+        TaskCall::SelfRules { rules: _ } => b"self",
+        TaskCall::Relabels { labels: _ } => b"relabels",
+        TaskCall::Kill { pid: _, sig: _ } => b"kill",
+        TaskCall::Take => b"take",
+        TaskCall::TraceRead { pid: _ } => b"trace",
+        TaskCall::TraceAttach { pid: _ } => b"trace",
     }
 }
 
@@ -80,12 +88,58 @@ pub fn call_verb(call: &Call) -> &'static [u8]
     }
 }
 
-fn put_task_words(out: &mut Vec<u8>, labels: &Labels, call: &TaskCall) -> Result<(), AllocError>
-    ensures { OnOk result (out.new.items ≡ out.old.items ++ words (task_words labels.now call.now)) }
+/// Self rules, three words each.
+fn put_rules(out: &mut Vec<u8>, labels: &Labels, rules: &[Pair]) -> Result<(), AllocError>
+    ensures { OnOk result (out.new.items ≡ out.old.items ++ words (rule_words labels.now rules.now)) }
+{
+    for rule in rules {
+        put_triple(out, labels, rule.s, rule.o, rule.m)?;
+    }
+    Ok(())
+}
+
+fn put_labels(out: &mut Vec<u8>, labels: &Labels, list: &[LabelId]) -> Result<(), AllocError>
+    ensures { OnOk result (out.new.items ≡ out.old.items ++ words (map (name_at labels.now) list.now)) }
+{
+    for l in list {
+        put_label(out, labels, *l)?;
+    }
+    Ok(())
+}
+
+fn put_task_words(
+    out: &mut Vec<u8>,
+    labels: &Labels,
+    names: &[Bytes],
+    call: &TaskCall,
+) -> Result<(), AllocError>
+    ensures { OnOk result (out.new.items ≡ out.old.items ++ words (task_words labels.now names.now call.now)) }
 {
     match call {
+        TaskCall::Fork { pid } => put_word(out, task_name(names, *pid)),
+        TaskCall::Exit => Ok(()),
         TaskCall::Relabel { l } => put_label(out, labels, *l),
         TaskCall::DropCap { cap } => put_word(out, cap_text(*cap)),
+        TaskCall::SelfRules { rules } => {
+            put_number(out, rules.items().len() as u64)?;
+            put_rules(out, labels, rules.items())
+        }
+        TaskCall::Relabels { labels: list } => {
+            put_number(out, list.items().len() as u64)?;
+            put_labels(out, labels, list.items())
+        }
+        TaskCall::Kill { pid, sig } => {
+            put_numbered(out, task_name(names, *pid), u64::from(*sig))
+        }
+        TaskCall::Take => Ok(()),
+        TaskCall::TraceRead { pid } => {
+            put_word(out, b"read")?;
+            put_word(out, task_name(names, *pid))
+        }
+        TaskCall::TraceAttach { pid } => {
+            put_word(out, b"attach")?;
+            put_word(out, task_name(names, *pid))
+        }
     }
 }
 
@@ -102,12 +156,18 @@ fn put_tree_words(out: &mut Vec<u8>, call: &TreeCall) -> Result<(), AllocError>
     }
 }
 
-/// The words of a call behind its verb.
-pub fn put_call_words(out: &mut Vec<u8>, labels: &Labels, call: &Call) -> Result<(), AllocError>
-    ensures { OnOk result (out.new.items ≡ out.old.items ++ words (call_words labels.now call.now)) }
+/// The words of a call, its verb first.
+pub fn put_call(
+    out: &mut Vec<u8>,
+    labels: &Labels,
+    names: &[Bytes],
+    call: &Call,
+) -> Result<(), AllocError>
+    ensures { OnOk result (out.new.items ≡ out.old.items ++ words (verb_words labels.now names.now call.now)) }
 {
+    put_word(out, call_verb(call))?;
     match call {
-        Call::Task(call) => put_task_words(out, labels, call),
+        Call::Task(call) => put_task_words(out, labels, names, call),
         Call::Tree(call) => put_tree_words(out, call),
     }
 }
@@ -120,7 +180,13 @@ fn why_text(why: Why) -> &'static [u8]
         Why::IsRoot => b"is-root",
         Why::NotDirectory => b"not-directory",
         Why::NotPrivileged => b"not-privileged",
+        Why::NoSuchTask => b"no-such-task",
         Why::NoSuchName => b"no-such-name",
+        Why::Range => b"range",
+        Why::Again => b"again",
+        Why::TasksFull { limit: _ } => b"tasks-full",
+        Why::SelfFull { limit: _ } => b"self-full",
+        Why::RelabelFull { limit: _ } => b"relabel-full",
         Why::TreeFull { limit: _ } => b"tree-full",
     }
 }
@@ -131,6 +197,8 @@ pub fn put_reply(out: &mut Vec<u8>, reply: &Reply) -> Result<(), AllocError>
 {
     match reply {
         Reply::Ok => put_word(out, b"ok"),
+        Reply::Child(number) => put_numbered(out, b"child", u64::from(*number)),
+        Reply::Signal(sig) => put_numbered(out, b"signal", u64::from(*sig)),
         Reply::Names { count, names } => {
             put_word(out, b"names")?;
             put_number(out, u64::from(*count))?;

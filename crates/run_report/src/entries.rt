@@ -1,114 +1,95 @@
-ghost use Rattle.std.specs.Prelude.{◌≡◌, ◌++◌, map, IfOk, OnOk};
-ghost use Rattle.record_spec.specs.Audits.{audit_line, audit_lines};
+ghost use Rattle.std.specs.Prelude.{◌≡◌, [], ◌∷◌, ◌++◌, map, OnOk};
+ghost use Rattle.log_spec.specs.Audits.{outcome, selected_as, audit_line, audit_lines};
 ghost use Rattle.record_spec.specs.Entries.{entry_head, call_verb as verb_of_call, check_line as check_text, reply_line as reply_text, entry_lines as lines_of_entry};
 
-use crate::calls::{call_verb, put_call_words, put_reply};
-use crate::words::{put_call_number, put_decision, put_number, put_triple, put_version, put_word};
+use crate::calls::{call_verb, put_call, put_reply};
+use crate::page::Page;
+use crate::words::{put_call_number, put_decision, put_number, put_triple, put_version};
 use audit_line::{put_line, selected};
 use label_table::Labels;
 use rules_spec::Verdict;
-use smack_base::{Bytes, NameList};
-use std::alloc::{AllocError, Global};
+use smack_base::Bytes;
+use std::alloc::AllocError;
 use world_spec::{Entry, Reply};
 
 fn entry_line(
-    alloc: Global,
+    page: &mut Page,
     labels: &Labels,
+    names: &[Bytes],
     place: u64,
     entry: &Entry,
-) -> Result<Bytes, AllocError>
-    ensures { IfOk result (λ line. line ≡ entry_head labels.now place entry.now) }
+) -> Result<(), AllocError>
+    ensures { OnOk result (page.new ≡ page.old ++ entry_head labels.now names.now place entry.now ∷ []) }
 {
-    let mut out = Vec::from_slice(alloc, b"h")?;
+    let mut out = page.begin(b"h")?;
     put_number(&mut out, place)?;
     put_call_number(&mut out, entry.task, entry.seq)?;
     put_version(&mut out, entry.version)?;
-    put_word(&mut out, call_verb(&entry.call))?;
-    put_call_words(&mut out, labels, &entry.call)?;
-    out.extend_from_slice(b"\n")?;
-    Ok(Bytes::from_vec(out))
+    put_call(&mut out, labels, names, &entry.call)?;
+    page.end(out)
 }
 
-fn check_line(alloc: Global, labels: &Labels, v: &Verdict) -> Result<Bytes, AllocError>
-    ensures { IfOk result (λ line. line ≡ check_text labels.now v.now) }
+fn check_line(page: &mut Page, labels: &Labels, v: &Verdict) -> Result<(), AllocError>
+    ensures { OnOk result (page.new ≡ page.old ++ check_text labels.now v.now ∷ []) }
 {
-    let mut out = Vec::from_slice(alloc, b"c")?;
+    let mut out = page.begin(b"c")?;
     put_triple(&mut out, labels, v.subject, v.object, v.modes)?;
     put_decision(&mut out, v)?;
-    out.extend_from_slice(b"\n")?;
-    Ok(Bytes::from_vec(out))
+    page.end(out)
 }
 
-fn push_checks(
-    lines: &mut NameList,
-    alloc: Global,
-    labels: &Labels,
-    checks: &[Verdict],
-) -> Result<(), AllocError>
-    ensures { OnOk result (lines.new ≡ lines.old ++ map (check_text labels.now) checks.now) }
+fn check_lines(page: &mut Page, labels: &Labels, checks: &[Verdict]) -> Result<(), AllocError>
+    ensures { OnOk result (page.new ≡ page.old ++ map (check_text labels.now) checks.now) }
 {
     for v in checks {
-        lines.push(check_line(alloc, labels, v)?)?;
+        check_line(page, labels, v)?;
     }
     Ok(())
 }
 
 /// What the system's log says of a check.
-fn logged_line(
-    alloc: Global,
-    labels: &Labels,
-    verb: &[u8],
-    v: &Verdict,
-) -> Result<Bytes, AllocError>
-    ensures { IfOk result (λ line. line ≡ audit_line labels.now verb.now v.now) }
+fn logged_line(page: &mut Page, labels: &Labels, verb: &[u8], v: &Verdict) -> Result<(), AllocError>
+    ensures { OnOk result (page.new ≡ page.old ++ audit_line labels.now verb.now v.now (outcome v.now.allowed) ∷ []) }
 {
-    let mut out = Vec::new(alloc);
+    let mut out = page.begin(b"")?;
     put_line(&mut out, labels, verb, v)?;
-    Ok(Bytes::from_vec(out))
+    page.keep(out)
 }
 
-fn push_audit(
-    lines: &mut NameList,
-    alloc: Global,
-    labels: &Labels,
-    mode: u8,
-    entry: &Entry,
-) -> Result<(), AllocError>
-    ensures { OnOk result (lines.new ≡ lines.old ++ audit_lines labels.now mode (verb_of_call entry.now.call) entry.now.checks) }
+fn logged_lines(page: &mut Page, labels: &Labels, mode: u8, entry: &Entry) -> Result<(), AllocError>
+    ensures { OnOk result (page.new ≡ page.old ++ audit_lines labels.now (selected_as mode) (verb_of_call entry.now.call) entry.now.checks) }
 {
     let verb = call_verb(&entry.call);
     for v in entry.checks.items() {
         if selected(mode, v.allowed) {
-            lines.push(logged_line(alloc, labels, verb, v)?)?;
+            logged_line(page, labels, verb, v)?;
         }
     }
     Ok(())
 }
 
-fn reply_line(alloc: Global, reply: &Reply) -> Result<Bytes, AllocError>
-    ensures { IfOk result (λ line. line ≡ reply_text reply.now) }
+fn reply_line(page: &mut Page, reply: &Reply) -> Result<(), AllocError>
+    ensures { OnOk result (page.new ≡ page.old ++ reply_text reply.now ∷ []) }
 {
-    let mut out = Vec::from_slice(alloc, b"=")?;
+    let mut out = page.begin(b"=")?;
     put_reply(&mut out, reply)?;
-    out.extend_from_slice(b"\n")?;
-    Ok(Bytes::from_vec(out))
+    page.end(out)
 }
 
 /// The lines of an object call: the call, its checks, what is logged of them in a logging mode, and
 /// its reply.
 pub fn entry_lines(
-    alloc: Global,
+    page: &mut Page,
     labels: &Labels,
+    names: &[Bytes],
     mode: u8,
     place: u64,
     entry: &Entry,
-) -> Result<NameList, AllocError>
-    ensures { IfOk result (λ lines. lines ≡ lines_of_entry labels.now mode place entry.now) }
+) -> Result<(), AllocError>
+    ensures { OnOk result (page.new ≡ page.old ++ lines_of_entry labels.now names.now (selected_as mode) place entry.now) }
 {
-    let mut lines = NameList::new(alloc);
-    lines.push(entry_line(alloc, labels, place, entry)?)?;
-    push_checks(&mut lines, alloc, labels, entry.checks.items())?;
-    push_audit(&mut lines, alloc, labels, mode, entry)?;
-    lines.push(reply_line(alloc, &entry.reply)?)?;
-    Ok(lines)
+    entry_line(page, labels, names, place, entry)?;
+    check_lines(page, labels, entry.checks.items())?;
+    logged_lines(page, labels, mode, entry)?;
+    reply_line(page, &entry.reply)
 }

@@ -13,9 +13,11 @@ mod entries;
 mod fault;
 mod lines;
 mod modes;
+mod page;
 mod printed;
 mod record;
 mod refusals;
+mod tasks;
 mod words;
 
 pub use fault::ReportFault;

@@ -1,16 +1,19 @@
-ghost use Rattle.std.specs.Prelude.{◌≡◌, ◌<◌, ◌^◌, ◌++◌, ◌∷◌, [], length, codes, slice_index_or, IfOk, OnOk};
-ghost use Rattle.record_spec.specs.Words.{words, line};
-ghost use Rattle.record_spec.specs.Show.{op_words, op_line as op_text, batch_head, batch_lines as lines_of_batch, asked_head, what_words, answer_words, asked_lines as lines_of_asked, task_line as task_text, head_lines as head_of_record, end_line as end_text};
+ghost use Rattle.std.specs.Prelude.{◌≡◌, ◌++◌, ◌∷◌, [], length, map, codes, OnOk};
+ghost use Rattle.log_spec.specs.Words.{words, line};
+ghost use Rattle.record_spec.specs.Tasks.{task_name as name_of_task};
+ghost use Rattle.record_spec.specs.Show.{op_words, op_line as op_text, batch_head, batch_lines as lines_of_batch, asked_head, what_words, answer_words, asked_lines as lines_of_asked, task_line as task_text, task_lines as lines_of_tasks, head_lines as head_of_record, end_line as end_text};
 
+use crate::page::Page;
 use crate::refusals::put_refusal;
+use crate::tasks::run_tasks;
 use crate::words::{
     put_call_number, put_decision, put_label, put_modes, put_number, put_numbered, put_triple,
-    put_version, put_word,
+    put_version, put_word, task_name,
 };
 use label_table::Labels;
-use record_spec::{AskedLine, AskedWhat, RunRecord};
+use record_spec::{AskedLine, AskedWhat, NumberedTask, RunRecord};
 use rules_spec::Batch;
-use smack_base::{Bytes, NameList, RuleOp};
+use smack_base::{Bytes, RuleOp};
 use std::alloc::{AllocError, Global};
 
 fn put_op(out: &mut Vec<u8>, labels: &Labels, op: &RuleOp) -> Result<(), AllocError>
@@ -44,46 +47,54 @@ fn put_op(out: &mut Vec<u8>, labels: &Labels, op: &RuleOp) -> Result<(), AllocEr
     }
 }
 
-fn op_line(alloc: Global, labels: &Labels, op: &RuleOp) -> Result<Bytes, AllocError>
-    ensures { IfOk result (λ line. line ≡ op_text labels.now op.now) }
+fn op_line(page: &mut Page, labels: &Labels, op: &RuleOp) -> Result<(), AllocError>
+    ensures { OnOk result (page.new ≡ page.old ++ op_text labels.now op.now ∷ []) }
 {
-    let mut out = Vec::from_slice(alloc, b"o")?;
+    let mut out = page.begin(b"o")?;
     put_op(&mut out, labels, op)?;
-    out.extend_from_slice(b"\n")?;
-    Ok(Bytes::from_vec(out))
+    page.end(out)
 }
 
-fn batch_line(alloc: Global, version: u64, batch: &Batch) -> Result<Bytes, AllocError>
-    ensures { IfOk result (λ line. line ≡ batch_head version batch.now) }
+fn batch_line(page: &mut Page, version: u64, batch: &Batch) -> Result<(), AllocError>
+    ensures { OnOk result (page.new ≡ page.old ++ batch_head version batch.now ∷ []) }
 {
-    let mut out = Vec::from_slice(alloc, b"j")?;
+    let mut out = page.begin(b"j")?;
     put_number(&mut out, version)?;
     put_call_number(&mut out, batch.task, batch.seq)?;
     put_number(&mut out, batch.ops.items().len() as u64)?;
-    out.extend_from_slice(b"\n")?;
-    Ok(Bytes::from_vec(out))
+    page.end(out)
+}
+
+fn op_lines(page: &mut Page, labels: &Labels, ops: &[RuleOp]) -> Result<(), AllocError>
+    ensures { OnOk result (page.new ≡ page.old ++ map (op_text labels.now) ops.now) }
+{
+    for op in ops {
+        op_line(page, labels, op)?;
+    }
+    Ok(())
 }
 
 /// The lines of a batch that makes a version.
 pub fn batch_lines(
-    alloc: Global,
+    page: &mut Page,
     labels: &Labels,
     version: u64,
     batch: &Batch,
-) -> Result<NameList, AllocError>
-    ensures { IfOk result (λ lines. lines ≡ lines_of_batch labels.now version batch.now) }
+) -> Result<(), AllocError>
+    ensures { OnOk result (page.new ≡ page.old ++ lines_of_batch labels.now version batch.now) }
 {
-    let mut lines = NameList::new(alloc);
-    lines.push(batch_line(alloc, version, batch)?)?;
-    for op in batch.ops.items() {
-        lines.push(op_line(alloc, labels, op)?)?;
-    }
-    Ok(lines)
+    batch_line(page, version, batch)?;
+    op_lines(page, labels, batch.ops.items())
 }
 
-/// What was asked: a question, or a write to a file.
-fn put_what(out: &mut Vec<u8>, labels: &Labels, what: &AskedWhat) -> Result<(), AllocError>
-    ensures { OnOk result (out.new.items ≡ out.old.items ++ words (what_words labels.now what.now)) }
+/// What was asked: a question, a write to a file, or the end of a task.
+fn put_what(
+    out: &mut Vec<u8>,
+    labels: &Labels,
+    names: &[Bytes],
+    what: &AskedWhat,
+) -> Result<(), AllocError>
+    ensures { OnOk result (out.new.items ≡ out.old.items ++ words (what_words labels.now names.now what.now)) }
 {
     match what {
         AskedWhat::Ask(v) => {
@@ -93,6 +104,10 @@ fn put_what(out: &mut Vec<u8>, labels: &Labels, what: &AskedWhat) -> Result<(), 
         AskedWhat::Refused { file, fault: _ } => {
             put_word(out, b"write")?;
             put_word(out, file.items())
+        }
+        AskedWhat::Wait { pid } => {
+            put_word(out, b"wait")?;
+            put_word(out, task_name(names, *pid))
         }
     }
 }
@@ -104,81 +119,82 @@ fn put_answer(out: &mut Vec<u8>, what: &AskedWhat) -> Result<(), AllocError>
     match what {
         AskedWhat::Ask(v) => put_decision(out, v),
         AskedWhat::Refused { file: _, fault } => put_refusal(out, *fault),
+        AskedWhat::Wait { pid: _ } => put_word(out, b"ok"),
     }
 }
 
-fn question_line(alloc: Global, labels: &Labels, asked: &AskedLine) -> Result<Bytes, AllocError>
-    ensures { IfOk result (λ text. text ≡ line (codes "q") (asked_head asked.now ++ what_words labels.now asked.now.what)) }
+fn question_line(
+    page: &mut Page,
+    labels: &Labels,
+    names: &[Bytes],
+    asked: &AskedLine,
+) -> Result<(), AllocError>
+    ensures { OnOk result (page.new ≡ page.old
+        ++ line (codes "q") (asked_head asked.now ++ what_words labels.now names.now asked.now.what) ∷ []) }
 {
-    let mut out = Vec::from_slice(alloc, b"q")?;
+    let mut out = page.begin(b"q")?;
     put_call_number(&mut out, asked.task, asked.seq)?;
     put_version(&mut out, asked.version)?;
-    put_what(&mut out, labels, &asked.what)?;
-    out.extend_from_slice(b"\n")?;
-    Ok(Bytes::from_vec(out))
+    put_what(&mut out, labels, names, &asked.what)?;
+    page.end(out)
 }
 
-fn answer_line(alloc: Global, what: &AskedWhat) -> Result<Bytes, AllocError>
-    ensures { IfOk result (λ text. text ≡ line (codes "=") (answer_words what.now)) }
+fn answer_line(page: &mut Page, what: &AskedWhat) -> Result<(), AllocError>
+    ensures { OnOk result (page.new ≡ page.old ++ line (codes "=") (answer_words what.now) ∷ []) }
 {
-    let mut out = Vec::from_slice(alloc, b"=")?;
+    let mut out = page.begin(b"=")?;
     put_answer(&mut out, what)?;
-    out.extend_from_slice(b"\n")?;
-    Ok(Bytes::from_vec(out))
+    page.end(out)
 }
 
-/// The lines of an asked or refused line and its answer.
+/// The lines of an asked, refused or waited line and its answer.
 pub fn asked_lines(
-    alloc: Global,
+    page: &mut Page,
     labels: &Labels,
+    names: &[Bytes],
     asked: &AskedLine,
-) -> Result<NameList, AllocError>
-    ensures { IfOk result (λ lines. lines ≡ lines_of_asked labels.now asked.now) }
+) -> Result<(), AllocError>
+    ensures { OnOk result (page.new ≡ page.old ++ lines_of_asked labels.now names.now asked.now) }
 {
-    let mut lines = NameList::new(alloc);
-    lines.push(question_line(alloc, labels, asked)?)?;
-    lines.push(answer_line(alloc, &asked.what)?)?;
-    Ok(lines)
+    question_line(page, labels, names, asked)?;
+    answer_line(page, &asked.what)
 }
 
-fn task_line(alloc: Global, task: u64, name: &[u8]) -> Result<Bytes, AllocError>
-    ensures { IfOk result (λ line. line ≡ task_text task name.now) }
+fn task_line(page: &mut Page, number: u64, name: &[u8]) -> Result<(), AllocError>
+    ensures { OnOk result (page.new ≡ page.old ++ task_text number name.now ∷ []) }
 {
-    let mut out = Vec::from_slice(alloc, b"task")?;
-    put_number(&mut out, task)?;
+    let mut out = page.begin(b"task")?;
+    put_number(&mut out, number)?;
     put_word(&mut out, name)?;
-    out.extend_from_slice(b"\n")?;
-    Ok(Bytes::from_vec(out))
+    page.end(out)
 }
 
-/// The name of a task by its pid; a name of no bytes where there is none.
-fn name_at(names: &[Bytes], pid: usize) -> &[u8]
-    ensures { result.now ≡ slice_index_or names.now pid [] }
+fn task_lines(page: &mut Page, names: &[Bytes], tasks: &[NumberedTask]) -> Result<(), AllocError>
+    ensures { OnOk result (page.new ≡ page.old ++ map (λ t. task_text t.number (name_of_task names.now t.pid)) tasks.now) }
 {
-    match names.get(pid) {
-        Some(name) => name.items(),
-        None => b"",
+    for task in tasks {
+        task_line(page, u64::from(task.number), task_name(names, task.pid))?;
     }
+    Ok(())
 }
 
 /// The first lines of a record: its format, and its tasks.
-pub fn head_lines(alloc: Global, r: &RunRecord) -> Result<NameList, AllocError>
-    ensures { IfOk result (λ lines. lines ≡ head_of_record r.now) }
+pub fn head_lines(page: &mut Page, alloc: Global, r: &RunRecord) -> Result<(), AllocError>
+    ensures { OnOk result (page.new ≡ page.old ++ head_of_record r.now) }
 {
-    let mut lines = NameList::new(alloc);
-    lines.push(Bytes::from_slice(alloc, b"smack 1\n")?)?;
-    lines.push(task_line(alloc, 0, name_at(r.names.items(), 0))?)?;
-    Ok(lines)
+    let tasks = run_tasks(alloc, r.history.items())?;
+    let out = page.begin(b"smack 1")?;
+    page.end(out)?;
+    task_lines(page, r.names.items(), tasks.as_slice())
 }
 
 /// The last line of a record.
-pub fn end_line(alloc: Global, r: &RunRecord) -> Result<Bytes, AllocError>
-    ensures { IfOk result (λ line. line ≡ end_text r.now) }
+pub fn end_line(page: &mut Page, r: &RunRecord) -> Result<(), AllocError>
+    ensures { OnOk result (page.new ≡ page.old ++ end_text r.now ∷ []) }
 {
-    let mut out = Vec::from_slice(alloc, b"end")?;
+    let mut out = page.begin(b"end")?;
     put_number(&mut out, r.journal.items().len() as u64)?;
     put_number(&mut out, r.history.items().len() as u64)?;
     put_number(&mut out, r.asked.items().len() as u64)?;
-    out.extend_from_slice(b"\n")?;
-    Ok(Bytes::from_vec(out))
+    page.end(out)
 }

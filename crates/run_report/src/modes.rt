@@ -23,7 +23,7 @@ pub fn logging_modes(alloc: Global, journal: &[Batch]) -> Result<Vec<u8>, AllocE
     ensures modes { IfOk result (λ modes. modes.items ≡ modes_from 1 journal.now) }
     ensures some { IfOk result (λ modes. 0 < length modes.items) }
 {
-    let mut modes = Vec::new(alloc);
+    let mut modes = Vec::with_capacity(alloc, journal.len() + 1)?;
     let mut mode = 1;
     for batch in journal {
         modes.push(mode)?;

@@ -1,4 +1,4 @@
-ghost use Rattle.std.specs.Prelude.{◌≡◌, ◌≤◌, ◌<◌, length, Err, OnOk, OnErr};
+ghost use Rattle.std.specs.Prelude.{◌≡◌, ◌≢◌, ◌≤◌, ◌<◌, [], ◌∷◌, length, Err, OnOk, OnErr};
 ghost use Rattle.outside.specs.Faults.{Rose};
 ghost use Rattle.outside.specs.Sink.{Appends, AppendsFront};
 ghost use Rattle.run_report.specs.Modes.{modes_from};
@@ -7,12 +7,13 @@ ghost use Rattle.record_spec.specs.Show.{joined, lines_in_turn, head_lines as li
 use crate::fault::ReportFault;
 use crate::lines::{end_line, head_lines};
 use crate::modes::logging_modes;
+use crate::page::Page;
 use crate::printed::Printed;
 use label_table::Labels;
 use outside::{Sink, SinkFault, offer};
 use record_spec::RunRecord;
 use smack_base::Bytes;
-use std::alloc::Global;
+use std::alloc::{AllocError, Global};
 
 /// Offers a line; its faults are those of the report.
 fn put_line<K: Sink>(sink: &mut K, line: &[u8]) -> Result<(), ReportFault>
@@ -20,6 +21,7 @@ fn put_line<K: Sink>(sink: &mut K, line: &[u8]) -> Result<(), ReportFault>
     ensures err { OnErr result (AppendsFront (K.taken sink.old) (K.taken sink.new) line.now) }
     ensures later { K.faults sink.old ≤ K.faults sink.new }
     ensures failed { result ≡ Err ReportFault.Failed → Rose (K.faults sink.old) (K.faults sink.new) }
+    ensures told { result ≢ Err ReportFault.Failed → K.faults sink.new ≡ K.faults sink.old }
 {
     match offer(sink, line) {
         Ok(()) => Ok(()),
@@ -34,62 +36,99 @@ fn put_lines<K: Sink>(sink: &mut K, lines: &[Bytes]) -> Result<(), ReportFault>
     ensures err { OnErr result (AppendsFront (K.taken sink.old) (K.taken sink.new) (joined lines.now)) }
     ensures later { K.faults sink.old ≤ K.faults sink.new }
     ensures failed { result ≡ Err ReportFault.Failed → Rose (K.faults sink.old) (K.faults sink.new) }
+    ensures told { result ≢ Err ReportFault.Failed → K.faults sink.new ≡ K.faults sink.old }
 {
     for line in lines {
-        if let Err(fault) = put_line(sink, line.items()) {
-            return Err(fault);
-        }
+        put_line(sink, line.items())?;
     }
     Ok(())
+}
+
+/// Makes the lines of an item the only ones of a page.
+fn item_page<T: Printed>(
+    page: &mut Page,
+    item: &T,
+    labels: &Labels,
+    names: &[Bytes],
+    modes: &[u8],
+    place: u64,
+) -> Result<(), AllocError>
+    requires { 0 < length modes.now }
+    ensures { OnOk result (page.new ≡ T.lines_of labels.now names.now modes.now place item.now) }
+{
+    page.clear()?;
+    item.put_lines(page, labels, names, modes, place)
 }
 
 /// Writes the lines of items, of which the first has the place 1.
 fn put_items<K: Sink, T: Printed>(
     sink: &mut K,
-    alloc: Global,
+    page: &mut Page,
     labels: &Labels,
+    names: &[Bytes],
     modes: &[u8],
     items: &[T],
 ) -> Result<(), ReportFault>
     requires { 0 < length modes.now }
-    ensures ok { OnOk result (Appends (K.taken sink.old) (K.taken sink.new) (joined (lines_in_turn (T.lines_of labels.now modes.now) 1 items.now))) }
-    ensures err { OnErr result (AppendsFront (K.taken sink.old) (K.taken sink.new) (joined (lines_in_turn (T.lines_of labels.now modes.now) 1 items.now))) }
+    ensures ok { OnOk result (Appends (K.taken sink.old) (K.taken sink.new) (joined (lines_in_turn (T.lines_of labels.now names.now modes.now) 1 items.now))) }
+    ensures err { OnErr result (AppendsFront (K.taken sink.old) (K.taken sink.new) (joined (lines_in_turn (T.lines_of labels.now names.now modes.now) 1 items.now))) }
     ensures later { K.faults sink.old ≤ K.faults sink.new }
     ensures failed { result ≡ Err ReportFault.Failed → Rose (K.faults sink.old) (K.faults sink.new) }
+    ensures told { result ≢ Err ReportFault.Failed → K.faults sink.new ≡ K.faults sink.old }
 {
     for (i, item) in items.iter().enumerate() {
-        let Ok(lines) = item.lines(alloc, labels, modes, i as u64 + 1) else {
+        let place = i as u64 + 1;
+        let Ok(()) = item_page(page, item, labels, names, modes, place) else {
             return Err(ReportFault::Memory);
         };
-        if let Err(fault) = put_lines(sink, lines.items()) {
-            return Err(fault);
-        }
+        put_lines(sink, page.lines())?;
     }
     Ok(())
 }
 
+fn head_page(page: &mut Page, alloc: Global, r: &RunRecord) -> Result<(), AllocError>
+    ensures { OnOk result (page.new ≡ lines_of_head r.now) }
+{
+    page.clear()?;
+    head_lines(page, alloc, r)
+}
+
+fn end_page(page: &mut Page, r: &RunRecord) -> Result<(), AllocError>
+    ensures { OnOk result (page.new ≡ end_text r.now ∷ []) }
+{
+    page.clear()?;
+    end_line(page, r)
+}
+
 /// Writes the first lines of a record.
-fn put_head<K: Sink>(sink: &mut K, alloc: Global, r: &RunRecord) -> Result<(), ReportFault>
+fn put_head<K: Sink>(
+    sink: &mut K,
+    page: &mut Page,
+    alloc: Global,
+    r: &RunRecord,
+) -> Result<(), ReportFault>
     ensures ok { OnOk result (Appends (K.taken sink.old) (K.taken sink.new) (joined (lines_of_head r.now))) }
     ensures err { OnErr result (AppendsFront (K.taken sink.old) (K.taken sink.new) (joined (lines_of_head r.now))) }
     ensures later { K.faults sink.old ≤ K.faults sink.new }
     ensures failed { result ≡ Err ReportFault.Failed → Rose (K.faults sink.old) (K.faults sink.new) }
+    ensures told { result ≢ Err ReportFault.Failed → K.faults sink.new ≡ K.faults sink.old }
 {
-    match head_lines(alloc, r) {
-        Ok(lines) => put_lines(sink, lines.items()),
+    match head_page(page, alloc, r) {
+        Ok(()) => put_lines(sink, page.lines()),
         Err(_) => Err(ReportFault::Memory),
     }
 }
 
 /// Writes the last line of a record.
-fn put_end<K: Sink>(sink: &mut K, alloc: Global, r: &RunRecord) -> Result<(), ReportFault>
-    ensures ok { OnOk result (Appends (K.taken sink.old) (K.taken sink.new) (end_text r.now)) }
-    ensures err { OnErr result (AppendsFront (K.taken sink.old) (K.taken sink.new) (end_text r.now)) }
+fn put_end<K: Sink>(sink: &mut K, page: &mut Page, r: &RunRecord) -> Result<(), ReportFault>
+    ensures ok { OnOk result (Appends (K.taken sink.old) (K.taken sink.new) (joined (end_text r.now ∷ []))) }
+    ensures err { OnErr result (AppendsFront (K.taken sink.old) (K.taken sink.new) (joined (end_text r.now ∷ []))) }
     ensures later { K.faults sink.old ≤ K.faults sink.new }
     ensures failed { result ≡ Err ReportFault.Failed → Rose (K.faults sink.old) (K.faults sink.new) }
+    ensures told { result ≢ Err ReportFault.Failed → K.faults sink.new ≡ K.faults sink.old }
 {
-    match end_line(alloc, r) {
-        Ok(line) => put_line(sink, line.items()),
+    match end_page(page, r) {
+        Ok(()) => put_lines(sink, page.lines()),
         Err(_) => Err(ReportFault::Memory),
     }
 }
@@ -107,23 +146,15 @@ fn put_parts<K: Sink>(
     ensures err { OnErr result (AppendsFront (K.taken sink.old) (K.taken sink.new) (show r.now)) }
     ensures later { K.faults sink.old ≤ K.faults sink.new }
     ensures failed { result ≡ Err ReportFault.Failed → Rose (K.faults sink.old) (K.faults sink.new) }
+    ensures told { result ≢ Err ReportFault.Failed → K.faults sink.new ≡ K.faults sink.old }
 {
-    if let Err(fault) = put_head(sink, alloc, r) {
-        return Err(fault);
-    }
-    if let Err(fault) = put_items(sink, alloc, &r.labels, modes, r.journal.items()) {
-        return Err(fault);
-    }
-    if let Err(fault) = put_items(sink, alloc, &r.labels, modes, r.history.items()) {
-        return Err(fault);
-    }
-    if let Err(fault) = put_items(sink, alloc, &r.labels, modes, r.asked.items()) {
-        return Err(fault);
-    }
-    if let Err(fault) = put_end(sink, alloc, r) {
-        return Err(fault);
-    }
-    Ok(())
+    let mut page = Page::new(alloc);
+    let names = r.names.items();
+    put_head(sink, &mut page, alloc, r)?;
+    put_items(sink, &mut page, &r.labels, names, modes, r.journal.items())?;
+    put_items(sink, &mut page, &r.labels, names, modes, r.history.items())?;
+    put_items(sink, &mut page, &r.labels, names, modes, r.asked.items())?;
+    put_end(sink, &mut page, r)
 }
 
 /// Writes the text of a record to a sink, line by line. After a fault a front of it was taken;
@@ -133,6 +164,7 @@ pub fn put_record<K: Sink>(alloc: Global, r: &RunRecord, sink: &mut K) -> Result
     ensures err { OnErr result (AppendsFront (K.taken sink.old) (K.taken sink.new) (show r.now)) }
     ensures later { K.faults sink.old ≤ K.faults sink.new }
     ensures failed { result ≡ Err ReportFault.Failed → Rose (K.faults sink.old) (K.faults sink.new) }
+    ensures told { result ≢ Err ReportFault.Failed → K.faults sink.new ≡ K.faults sink.old }
 {
     match logging_modes(alloc, r.journal.items()) {
         Ok(modes) => put_parts(sink, alloc, modes.as_slice(), r),

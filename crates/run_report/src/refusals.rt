@@ -1,9 +1,9 @@
 ghost use Rattle.std.specs.Prelude.{◌≡◌, ◌++◌, OnOk};
-ghost use Rattle.record_spec.specs.Words.{words};
+ghost use Rattle.log_spec.specs.Words.{words};
 ghost use Rattle.record_spec.specs.Refusals.{label_fault_words, line_fault_words, bad_line_words, refusal_words};
 
 use crate::words::{put_number, put_numbered, put_word};
-use script_spec::Refusal;
+use file_spec::Refusal;
 use smack_base::LabelFault;
 use std::alloc::AllocError;
 use text_spec::{BadLine, LineFault};

@@ -1,16 +1,19 @@
-ghost use Rattle.std.specs.Prelude.{◌≡◌, ◌++◌, ◌∷◌, [], OnOk, decimal};
+ghost use Rattle.std.specs.Prelude.{◌≡◌, ◌++◌, ◌∷◌, [], OnOk};
 ghost use Rattle.smack_base.specs.Modes.{letters_of};
-ghost use Rattle.record_spec.specs.Words.{word, words, name_at, call_number, version_word, triple, over_words, decision};
+ghost use Rattle.record_spec.specs.Tasks.{task_name as name_of_task};
+ghost use Rattle.log_spec.specs.Numerals.{numeral};
+ghost use Rattle.log_spec.specs.Words.{word, words, name_at, call_number, version_word, triple, over_words, decision};
 
 use itoa::Buffer;
 use label_table::Labels;
 use rules_spec::Verdict;
-use smack_base::{LabelId, Modes};
+use smack_base::{Bytes, LabelId, Modes, Pid};
 use std::alloc::AllocError;
 
 /// A decimal number, with no space before it.
+#[tactic(auto, using(log_spec::proofs::Numerals::numeral_is_decimal))]
 pub fn put_decimal(out: &mut Vec<u8>, n: u64) -> Result<(), AllocError>
-    ensures { OnOk result (out.new.items ≡ out.old.items ++ decimal n) }
+    ensures { OnOk result (out.new.items ≡ out.old.items ++ numeral n) }
 {
     let mut buffer = Buffer::new();
     out.extend_from_slice(buffer.format(n).as_bytes())
@@ -26,7 +29,7 @@ pub fn put_word(out: &mut Vec<u8>, text: &[u8]) -> Result<(), AllocError>
 
 /// A decimal number.
 pub fn put_number(out: &mut Vec<u8>, n: u64) -> Result<(), AllocError>
-    ensures { OnOk result (out.new.items ≡ out.old.items ++ word (decimal n)) }
+    ensures { OnOk result (out.new.items ≡ out.old.items ++ word (numeral n)) }
 {
     out.extend_from_slice(b" ")?;
     put_decimal(out, n)
@@ -34,7 +37,7 @@ pub fn put_number(out: &mut Vec<u8>, n: u64) -> Result<(), AllocError>
 
 /// A word, and a decimal number behind it.
 pub fn put_numbered(out: &mut Vec<u8>, text: &[u8], n: u64) -> Result<(), AllocError>
-    ensures { OnOk result (out.new.items ≡ out.old.items ++ words (text.now ∷ decimal n ∷ [])) }
+    ensures { OnOk result (out.new.items ≡ out.old.items ++ words (text.now ∷ numeral n ∷ [])) }
 {
     put_word(out, text)?;
     put_number(out, n)
@@ -45,6 +48,16 @@ pub fn put_label(out: &mut Vec<u8>, labels: &Labels, id: LabelId) -> Result<(), 
     ensures { OnOk result (out.new.items ≡ out.old.items ++ word (name_at labels.now id)) }
 {
     put_word(out, labels.name_or_empty(id))
+}
+
+/// The name of a task by its pid; a name of no bytes where there is none.
+pub fn task_name(names: &[Bytes], pid: Pid) -> &[u8]
+    ensures { result.now ≡ name_of_task names.now pid }
+{
+    match names.get(usize::from(pid.0)) {
+        Some(name) => name.items(),
+        None => b"",
+    }
 }
 
 /// A mode set, as its letters or a dash.

@@ -1,6 +1,6 @@
 use Rattle.std.proofs.Common.{◌≡◌, ◌++◌, take}
 use Rattle.std.specs.List.{flat_map}
-use Rattle.record_spec.specs.Words.{word}
+use Rattle.log_spec.specs.Words.{word}
 use Rattle.run_report.proofs.calls.put_names.Given as goal
 
 abbrev pub invariant-loop-name : goal.invariant-loop-name

@@ -1,0 +1,67 @@
+use Rattle.std.specs.Prelude.{ℕ, ◌==◌, if◌then◌else◌, List, [], ◌∷◌, Option, Some, None, fold, nat_lt, slice_index_or}
+use Rattle.std.specs.List.{list_any, insert, position_or_len}
+use Rattle.smack_base.specs.declared.ids.Pid.{Pid}
+use Rattle.world_spec.specs.declared.TaskCall.{TaskCall}
+use Rattle.world_spec.specs.declared.TaskCall.TheVariants.{Fork, Exit, Relabel, DropCap, SelfRules, Relabels, Kill, Take, TraceRead, TraceAttach}
+use Rattle.world_spec.specs.declared.Call.{Call}
+use Rattle.world_spec.specs.declared.Call.TheVariants.{Task, Tree}
+use Rattle.world_spec.specs.declared.Reply.{Reply}
+use Rattle.world_spec.specs.declared.Reply.TheVariants.{Ok as Done, Child, Signal, Names, Denied, Refused}
+use Rattle.world_spec.specs.declared.Entry.{Entry}
+use Rattle.record_spec.specs.declared.NumberedTask.{NumberedTask}
+
+abbrev pub task_forked : TaskCall → Option Pid
+task_forked (Fork pid) = Some pid
+task_forked Exit = None
+task_forked (Relabel l) = None
+task_forked (DropCap cap) = None
+task_forked (SelfRules rules) = None
+task_forked (Relabels labels) = None
+task_forked (Kill pid sig) = None
+task_forked Take = None
+task_forked (TraceRead pid) = None
+task_forked (TraceAttach pid) = None
+
+-- the pid that a call forks
+abbrev pub forked : Call → Option Pid
+forked (Task call) = task_forked call
+forked (Tree call) = None
+
+-- the number of the task that a call made
+abbrev pub child_number : Reply → Option ℕ
+child_number Done = None
+child_number (Child k) = Some k
+child_number (Signal sig) = None
+child_number (Names count names) = None
+child_number (Denied case) = None
+child_number (Refused why) = None
+
+abbrev pub child_by : Option Pid → Option ℕ → Option NumberedTask
+child_by None k = None
+child_by (Some pid) None = None
+child_by (Some pid) (Some k) = Some (record { number = k; pid = pid })
+
+-- the task that an entry made, where it made one
+abbrev pub child_of : Entry → Option NumberedTask
+child_of e = child_by (forked e.call) (child_number e.reply)
+
+-- tasks by rising number; of two with one number the first stays
+abbrev pub with_task : List NumberedTask → NumberedTask → List NumberedTask
+with_task tasks t =
+    if list_any (λ u. u.number == t.number) tasks then tasks
+    else insert tasks (position_or_len (λ u. nat_lt t.number u.number) tasks) t
+
+abbrev pub with_child : List NumberedTask → Option NumberedTask → List NumberedTask
+with_child tasks None = tasks
+with_child tasks (Some t) = with_task tasks t
+
+abbrev pub first_task : NumberedTask
+first_task = record { number = 0; pid = record { 0 = 0 } }
+
+-- the tasks of a run by rising number: the first, and those that its entries made
+abbrev pub run_tasks : List Entry → List NumberedTask
+run_tasks history = fold (λ tasks e. with_child tasks (child_of e)) (first_task ∷ []) history
+
+-- the name of a pid
+abbrev pub task_name : List (List ℕ) → Pid → List ℕ
+task_name names pid = slice_index_or names pid.0 []

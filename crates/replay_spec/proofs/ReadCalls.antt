@@ -1,0 +1,127 @@
+use Rattle.std.proofs.Common.{◌≡◌, ℕ, Bool, true, false, cond, List, Option, Some, None, Result, Ok, Err, refl, subst}
+use Rattle.std.specs.Prelude.{length}
+use Rattle.std.specs.List.{AllByRecursion}
+use Rattle.std.proofs.lemmas.Bool.{ltb-true}
+use Rattle.smack_base.specs.declared.ids.Pid.{Pid}
+use Rattle.text_spec.specs.Names.{place_of, has_name}
+use Rattle.file_spec.specs.declared.Refusal.{Refusal}
+use Rattle.file_spec.specs.declared.Compiled.{Compiled}
+use Rattle.file_spec.specs.declared.Compiled.TheVariants.{Rules, SelfRules as RulesOfText, Relabels as LabelsOfText}
+use Rattle.file_spec.specs.Files.{compiled}
+use Rattle.script_spec.specs.declared.TaskVerb.{TaskVerb}
+use Rattle.script_spec.specs.declared.TaskVerb.TheVariants.{Fork as ForkVerb, Exit as ExitVerb, Relabel as RelabelVerb, Drop, Kill as KillVerb, Take as TakeVerb, Trace}
+use Rattle.script_spec.specs.declared.TraceWay.{TraceWay}
+use Rattle.script_spec.specs.declared.TraceWay.TheVariants.{Read, Attach}
+use Rattle.script_spec.specs.declared.TreeVerb.{TreeVerb}
+use Rattle.script_spec.specs.declared.TreeVerb.TheVariants.{Create as CreateVerb, Unlink as UnlinkVerb, List as ListVerb}
+use Rattle.script_spec.specs.declared.Verb.{Verb}
+use Rattle.script_spec.specs.declared.Verb.TheVariants.{Write, Ask, Wait, Task as TaskVerbOf, Tree as TreeVerbOf}
+use Rattle.script_spec.specs.Words.{number_of, signal_of}
+use Rattle.script_spec.specs.Lines.{ScriptLine, word_in, verb_in}
+use Rattle.world_spec.specs.declared.TaskCall.{TaskCall}
+use Rattle.world_spec.specs.declared.TaskCall.TheVariants.{Fork, Exit, Relabel, DropCap, SelfRules, Relabels, Kill, Take, TraceRead, TraceAttach}
+use Rattle.world_spec.specs.declared.TreeCall.{TreeCall}
+use Rattle.world_spec.specs.declared.TreeCall.TheVariants.{Create, Unlink, ListDir}
+use Rattle.world_spec.specs.declared.Call.{Call}
+use Rattle.world_spec.specs.declared.Call.TheVariants.{Task, Tree}
+use Rattle.replay_spec.specs.Calls.{path_in, pid_in, of_one, of_two, traced, task_call, tree_call, file_call, call_by}
+use Rattle.replay_spec.specs.Plain.{HasId, HasPid, IsPlainCall}
+use Rattle.replay_spec.proofs.KnownLabels.{IsKnownPair, IsKnownCompiled, known_id, compiled_known}
+
+-- some word is read as this
+abbrev pub IsReadBy : {A : Type 0} → (List ℕ → Option A) → A → Type 0
+IsReadBy read a = (word : List ℕ) × (read word ≡ Some a)
+
+-- What a call that a line makes is made of: labels that are known, tasks that have names, and paths and numbers that are
+-- words.
+abbrev pub IsReadTask : List (List ℕ) → List (List ℕ) → TaskCall → Type 0
+IsReadTask labels names (Fork pid) = HasPid names pid
+IsReadTask labels names Exit = Unit {0}
+IsReadTask labels names (Relabel l) = HasId labels l
+IsReadTask labels names (DropCap cap) = Unit {0}
+IsReadTask labels names (SelfRules rules) = AllByRecursion (IsKnownPair labels) rules
+IsReadTask labels names (Relabels list) = AllByRecursion (HasId labels) list
+IsReadTask labels names (Kill pid sig) = HasPid names pid × IsReadBy signal_of sig
+IsReadTask labels names Take = Unit {0}
+IsReadTask labels names (TraceRead pid) = HasPid names pid
+IsReadTask labels names (TraceAttach pid) = HasPid names pid
+
+abbrev pub IsReadTree : TreeCall → Type 0
+IsReadTree (Create path) = IsReadBy path_in path
+IsReadTree (Unlink path) = IsReadBy path_in path
+IsReadTree (ListDir path at) = IsReadBy path_in path × IsReadBy number_of at
+
+abbrev pub IsReadCall : List (List ℕ) → List (List ℕ) → Call → Type 0
+IsReadCall labels names (Task call) = IsReadTask labels names call
+IsReadCall labels names (Tree call) = IsReadTree call
+
+-- what holds of all that no word, one word or two words make, holds of what is made of them
+pub of_none_holds : {C : Type 0} (P : C → Type 0) (made c : C) → P made → ◌≡◌ {A = Option C} (Some made) (Some c) → P c
+of_none_holds P made c holds is = let same : made ≡ c = cc in subst P same holds
+
+pub of_one_holds : {A C : Type 0} (P : C → Type 0) (a : Option A) (make : A → C) (c : C) → ((x : A) → a ≡ Some x → P (make x)) → of_one a make ≡ Some c → P c
+of_one_holds P None make c each is = absurd cc
+of_one_holds P (Some x) make c each is = let same : make x ≡ c = cc in subst P same (each x refl)
+
+pub of_two_holds : {A B C : Type 0} (P : C → Type 0) (a : Option A) (b : Option B) (make : A → B → C) (c : C)
+    → ((x : A) (y : B) → a ≡ Some x → b ≡ Some y → P (make x y)) → of_two a b make ≡ Some c → P c
+of_two_holds P None b make c each is = absurd cc
+of_two_holds P (Some x) None make c each is = absurd cc
+of_two_holds P (Some x) (Some y) make c each is = let same : make x y ≡ c = cc in subst P same (each x y refl refl)
+
+-- the pid of a word has a name
+pub known_pid : (names : List (List ℕ)) (word : List ℕ) (pid : Pid) → pid_in names word ≡ Some pid → HasPid names pid
+known_pid names word pid is = by (has_name names word) refl is
+  where
+    by : (has : Bool) → has_name names word ≡ has → cond has (Some (record { 0 = place_of names word })) None ≡ Some pid → HasPid names pid
+    by true has is =
+        let same : (record { 0 = place_of names word }) ≡ pid = cc in
+        subst (HasPid names) same (ltb-true (place_of names word) (length names) has)
+    by false has is = absurd cc
+
+traced_is_read : (labels names : List (List ℕ)) (way : TraceWay) (pid : Pid) → HasPid names pid → IsReadTask labels names (traced way pid)
+traced_is_read labels names Read pid known = known
+traced_is_read labels names Attach pid known = known
+
+-- a call that a line makes is made of such words
+task_is_read : (labels names : List (List ℕ)) (l : ScriptLine) (verb : TaskVerb) (call : TaskCall) → task_call labels names l verb ≡ Some call
+    → IsReadTask labels names call
+task_is_read labels names l ForkVerb call is = of_one_holds (IsReadTask labels names) _ _ call (known_pid names (word_in 1 l)) is
+task_is_read labels names l ExitVerb call is = of_none_holds (IsReadTask labels names) Exit call tt is
+task_is_read labels names l RelabelVerb call is = of_one_holds (IsReadTask labels names) _ _ call (known_id labels (word_in 1 l)) is
+task_is_read labels names l Drop call is = of_one_holds (IsReadTask labels names) _ _ call (λ cap told. tt) is
+task_is_read labels names l KillVerb call is =
+    of_two_holds (IsReadTask labels names) _ _ _ call (λ pid sig named told. (known_pid names (word_in 1 l) pid named, (word_in 2 l, told))) is
+task_is_read labels names l TakeVerb call is = of_none_holds (IsReadTask labels names) Take call tt is
+task_is_read labels names l Trace call is =
+    of_two_holds (IsReadTask labels names) _ _ traced call (λ way pid told named. traced_is_read labels names way pid (known_pid names (word_in 2 l) pid named)) is
+
+tree_is_read : (l : ScriptLine) (verb : TreeVerb) (call : TreeCall) → tree_call l verb ≡ Some call → IsReadTree call
+tree_is_read l CreateVerb call is = of_one_holds IsReadTree _ _ call (λ path told. (word_in 1 l, told)) is
+tree_is_read l UnlinkVerb call is = of_one_holds IsReadTree _ _ call (λ path told. (word_in 1 l, told)) is
+tree_is_read l ListVerb call is = of_two_holds IsReadTree _ _ _ call (λ path at told number. ((word_in 1 l, told), (word_in 2 l, number))) is
+
+file_is_read : (labels names : List (List ℕ)) (made : Result Compiled Refusal) (call : TaskCall)
+    → ((c : Compiled) → made ≡ Ok c → IsKnownCompiled labels c) → file_call made ≡ Some call → IsReadTask labels names call
+file_is_read labels names (Ok (Rules ops)) call known is = cc
+file_is_read labels names (Ok (RulesOfText rules)) call known is =
+    of_none_holds (IsReadTask labels names) (SelfRules rules) call (known (RulesOfText rules) refl) is
+file_is_read labels names (Ok (LabelsOfText list)) call known is =
+    of_none_holds (IsReadTask labels names) (Relabels list) call (known (LabelsOfText list) refl) is
+file_is_read labels names (Err fault) call known is = cc
+
+by_is_read : (labels names : List (List ℕ)) (l : ScriptLine) (verb : Option Verb) (call : Call) → call_by labels names l verb ≡ Some call
+    → IsReadCall labels names call
+by_is_read labels names l None call is = absurd cc
+by_is_read labels names l (Some Write) call is =
+    of_one_holds (IsReadCall labels names) (file_call (compiled labels (word_in 1 l) l.text.bytes)) (λ c. Task c) call
+    (λ c told. file_is_read labels names (compiled labels (word_in 1 l) l.text.bytes) c (compiled_known labels (word_in 1 l) l.text.bytes) told) is
+by_is_read labels names l (Some Ask) call is = absurd cc
+by_is_read labels names l (Some Wait) call is = absurd cc
+by_is_read labels names l (Some (TaskVerbOf verb)) call is =
+    of_one_holds (IsReadCall labels names) (task_call labels names l verb) (λ c. Task c) call (task_is_read labels names l verb) is
+by_is_read labels names l (Some (TreeVerbOf verb)) call is =
+    of_one_holds (IsReadCall labels names) (tree_call l verb) (λ c. Tree c) call (tree_is_read l verb) is
+
+pub plain_is_read : (labels names : List (List ℕ)) (call : Call) → IsPlainCall labels names call → IsReadCall labels names call
+plain_is_read labels names call plain = by_is_read labels names plain.line (verb_in plain.line) call plain.gives

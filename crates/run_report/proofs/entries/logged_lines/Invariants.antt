@@ -1,0 +1,7 @@
+use Rattle.std.proofs.Common.{◌≡◌, ◌++◌, take}
+use Rattle.log_spec.specs.Audits.{selected_as, audit_lines}
+use Rattle.record_spec.specs.Entries.{call_verb}
+use Rattle.run_report.proofs.entries.logged_lines.Given as goal
+
+abbrev pub invariant-loop-v : goal.invariant-loop-v
+invariant-loop-v l = l.page ≡ l.fn.page ++ audit_lines l.labels (selected_as l.fn.mode) (call_verb l.fn.entry.call) (take l.v-index l.v-items)
