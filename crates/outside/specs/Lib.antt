@@ -1,6 +1,7 @@
 pub mod Faults
 pub mod Source
 pub mod Sink
+pub mod Seen
 pub mod Calls
 pub mod Memory
 pub mod Standard

@@ -1,4 +1,4 @@
-ghost use Rattle.std.specs.Prelude.{◌≡◌, ◌≢◌, ◌<◌, ◌≤◌, [], Some, Ok, Err, min, length, take, IfOk, OnErr};
+ghost use Rattle.std.specs.Prelude.{◌≡◌, ◌≢◌, ◌<◌, ◌≤◌, [], Some, Ok, Err, min, length, take, IsOk, IfOk, OnErr};
 ghost use Rattle.outside.specs.Source.{Takes, AtEnd};
 ghost use Rattle.outside.specs.Sink.{Appends};
 
@@ -116,5 +116,13 @@ impl Sink for CalmSink {
             Ok(()) => Ok(n),
             Err(_) => Err(SinkFault::Memory),
         }
+    }
+
+    /// Keeps nothing back.
+    fn flush(&mut self) -> Result<(), SinkFault>
+        ensures ok { IsOk result }
+        ensures same { self.new ≡ self.old }
+    {
+        Ok(())
     }
 }

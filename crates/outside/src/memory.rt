@@ -1,4 +1,4 @@
-ghost use Rattle.std.specs.Prelude.{◌≡◌, ◌<◌, ◌≤◌, ◌↔◌, [], Some, Err, min, length, take, IsTrue, IsErr, IfOk, OnErr};
+ghost use Rattle.std.specs.Prelude.{◌≡◌, ◌≢◌, ◌<◌, ◌≤◌, ◌↔◌, [], Some, Err, min, length, take, IsTrue, IsOk, IsErr, IfOk, OnOk, OnErr};
 ghost use Rattle.outside.specs.Faults.{Rose};
 ghost use Rattle.outside.specs.Source.{Takes};
 ghost use Rattle.outside.specs.Sink.{Appends};
@@ -45,6 +45,8 @@ impl Source for MemSource {
 
     ghost faults = { λ source. source.calls.faults };
 
+    ghost reads = { λ source. Some source.calls.made };
+
     /// Fails exactly where the number of the call is listed, and else leaves no room in `into` while bytes are left.
     fn read(&mut self, into: &mut [u8]) -> Result<usize, Failed>
         ensures listed { IsErr result ↔ IsTrue (next_fails self.old.calls) }
@@ -54,6 +56,7 @@ impl Source for MemSource {
         ensures unread { OnErr result (self.new.left ≡ self.old.left) }
         ensures later { self.old.calls.faults ≤ self.new.calls.faults }
         ensures failed { OnErr result (Rose self.old.calls.faults self.new.calls.faults) }
+        ensures told { OnOk result (self.new.calls.faults ≡ self.old.calls.faults) }
     {
         if self.calls.next() {
             Err(Failed)
@@ -118,11 +121,20 @@ impl Sink for MemSink {
         ensures same { self.new.most ≡ self.old.most }
         ensures later { self.old.calls.faults ≤ self.new.calls.faults }
         ensures failed { result ≡ Err SinkFault.Failed → Rose self.old.calls.faults self.new.calls.faults }
+        ensures told { result ≢ Err SinkFault.Failed → self.new.calls.faults ≡ self.old.calls.faults }
     {
         if self.calls.next() {
             Err(SinkFault::Failed)
         } else {
             self.calm.write(piece)
         }
+    }
+
+    /// Keeps nothing back.
+    fn flush(&mut self) -> Result<(), SinkFault>
+        ensures ok { IsOk result }
+        ensures same { self.new ≡ self.old }
+    {
+        Ok(())
     }
 }

@@ -1,4 +1,4 @@
-ghost use Rattle.std.specs.Prelude.{◌≡◌, ◌≤◌, Err, OnOk, OnErr};
+ghost use Rattle.std.specs.Prelude.{◌≡◌, ◌≢◌, ◌≤◌, Err, OnOk, OnErr};
 ghost use Rattle.outside.specs.Faults.{Rose};
 ghost use Rattle.outside.specs.Sink.{Appends, AppendsFront};
 
@@ -10,6 +10,7 @@ pub fn offer<K: Sink>(sink: &mut K, piece: &[u8]) -> Result<(), SinkFault>
     ensures err { OnErr result (AppendsFront (K.taken sink.old) (K.taken sink.new) piece.now) }
     ensures later { K.faults sink.old ≤ K.faults sink.new }
     ensures failed { result ≡ Err SinkFault.Failed → Rose (K.faults sink.old) (K.faults sink.new) }
+    ensures told { result ≢ Err SinkFault.Failed → K.faults sink.new ≡ K.faults sink.old }
 {
     let mut rest = piece;
     while !rest.is_empty() {

@@ -1,7 +1,7 @@
-ghost use Rattle.std.specs.Prelude.{◌≡◌, ◌<◌, ◌≤◌, ◌⊎◌, ℕ, List, Err, length, vec_len, IsOk, IfOk, OnOk, IfSome, IsSomeAnd};
+ghost use Rattle.std.specs.Prelude.{◌≡◌, ◌≢◌, ◌+◌, ◌<◌, ◌≤◌, ◌⊎◌, ℕ, List, Err, length, vec_len, IsOk, IfOk, OnOk, IfSome, IsSomeAnd};
 ghost use Rattle.outside.specs.Faults.{Rose};
 ghost use Rattle.outside.specs.Source.{Takes, AtEnd};
-ghost use Rattle.outside.specs.Reading.{taken_count};
+ghost use Rattle.outside.specs.Reading.{taken_count, ReadsAtMost};
 
 use crate::source::Source;
 use std::alloc::Global;
@@ -34,6 +34,10 @@ pub fn read_all<S: Source>(alloc: Global, source: &mut S, most: u32) -> Result<V
     ensures front { (came : List ℕ) × Takes (S.left source.old) (S.left source.new) came }
     ensures later { S.faults source.old ≤ S.faults source.new }
     ensures failed { result ≡ Err Unread.Failed → Rose (S.faults source.old) (S.faults source.new) }
+    ensures told { result ≢ Err Unread.Failed → S.faults source.new ≡ S.faults source.old }
+
+    // Each read but the last takes a byte, and none comes after more than may.
+    ensures reads { ReadsAtMost (S.reads source.old) (S.reads source.new) (most + 2) }
 
     // TooMany is the answer exactly where more bytes were taken, unless memory ran out.
     ensures many { result ≡ Err Unread.TooMany

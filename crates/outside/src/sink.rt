@@ -1,4 +1,4 @@
-ghost use Rattle.std.specs.Prelude.{◌≡◌, ◌<◌, ◌≤◌, ℕ, List, Option, Err, length, take, IfOk, OnErr};
+ghost use Rattle.std.specs.Prelude.{◌≡◌, ◌≢◌, ◌<◌, ◌≤◌, ℕ, List, [], Option, Err, length, take, IfOk, OnOk, OnErr};
 ghost use Rattle.outside.specs.Faults.{Rose};
 ghost use Rattle.outside.specs.Sink.{Appends};
 
@@ -23,6 +23,9 @@ pub trait Sink {
     /// The count of faults.
     ghost faults: { Self → ℕ };
 
+    /// The bytes taken that are still kept back, to be handed on together.
+    ghost kept: { Self → List ℕ } = { λ _. [] };
+
     /// Takes a front of `piece`, and answers its length, which is 0 only for an empty piece.
     fn write(&mut self, piece: &[u8]) -> Result<usize, SinkFault>
         ensures count { IfOk result (λ n. n ≤ length piece.now) }
@@ -30,5 +33,14 @@ pub trait Sink {
         ensures bytes { IfOk result (λ n. Appends (taken self.old) (taken self.new) (take n piece.now)) }
         ensures untaken { OnErr result (taken self.new ≡ taken self.old) }
         ensures later { faults self.old ≤ faults self.new }
-        ensures failed { result ≡ Err SinkFault.Failed → Rose (faults self.old) (faults self.new) };
+        ensures failed { result ≡ Err SinkFault.Failed → Rose (faults self.old) (faults self.new) }
+        ensures told { result ≢ Err SinkFault.Failed → faults self.new ≡ faults self.old };
+
+    /// Hands on all that is kept back. What was taken stays taken, also after a fault.
+    fn flush(&mut self) -> Result<(), SinkFault>
+        ensures handed_on { OnOk result (kept self.new ≡ []) }
+        ensures same { taken self.new ≡ taken self.old }
+        ensures later { faults self.old ≤ faults self.new }
+        ensures failed { result ≡ Err SinkFault.Failed → Rose (faults self.old) (faults self.new) }
+        ensures told { result ≢ Err SinkFault.Failed → faults self.new ≡ faults self.old };
 }

@@ -1,6 +1,6 @@
-ghost use Rattle.std.specs.Prelude.{◌≡◌, ◌<◌, ◌≤◌, ℕ, List, [], Option, Some, length, take, IfOk, OnErr};
+ghost use Rattle.std.specs.Prelude.{◌≡◌, ◌<◌, ◌≤◌, ℕ, List, [], Option, Some, length, take, None, IfOk, OnOk, OnErr};
 ghost use Rattle.outside.specs.Faults.{Rose};
-ghost use Rattle.outside.specs.Source.{Takes, AtEnd};
+ghost use Rattle.outside.specs.Source.{Takes, AtEnd, CountsRead};
 
 use thiserror::Error;
 
@@ -17,6 +17,9 @@ pub trait Source {
     /// The count of faults.
     ghost faults: { Self → ℕ };
 
+    /// The count of reads, where the source tells it.
+    ghost reads: { Self → Option ℕ } = { λ _. None };
+
     /// Puts the next bytes at the front of `into`, and answers how many. For an `into` with room, 0 is the end.
     fn read(&mut self, into: &mut [u8]) -> Result<usize, Failed>
         ensures count { IfOk result (λ n. n ≤ length into.new) }
@@ -25,5 +28,7 @@ pub trait Source {
         ensures only_end { IfOk result (λ n. left self.old ≡ Some [] → n ≡ 0) }
         ensures unread { OnErr result (left self.new ≡ left self.old) }
         ensures later { faults self.old ≤ faults self.new }
-        ensures failed { OnErr result (Rose (faults self.old) (faults self.new)) };
+        ensures failed { OnErr result (Rose (faults self.old) (faults self.new)) }
+        ensures told { OnOk result (faults self.new ≡ faults self.old) }
+        ensures counted { CountsRead (reads self.old) (reads self.new) };
 }

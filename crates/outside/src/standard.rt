@@ -1,11 +1,13 @@
-ghost use Rattle.std.specs.Prelude.{◌≡◌, ◌≢◌, ◌<◌, ◌≤◌, ⊤, None, Err, length, take, IfOk, OnErr};
-ghost use Rattle.std.specs.Io.KnownBytes.{ReadConsumes, WriteAppends};
-ghost use Rattle.outside.specs.Faults.{Rose};
+ghost use Rattle.std.specs.Prelude.{◌≡◌, ◌≢◌, ◌<◌, ◌≤◌, ⊤, [], None, Err, length, take, IfOk, IfErr, OnOk, OnErr, MatchResult};
+ghost use Rattle.std.specs.Io.KnownBytes.{Keeps, ReadConsumes, WriteAppends, append_known};
+ghost use Rattle.std.specs.Io.Buffered.{writer_inner, writer_buffer};
+ghost use Rattle.outside.specs.Faults.{Rose, after_fault};
 
 use crate::faults::count_fault;
 use crate::sink::{Sink, SinkFault};
 use crate::source::{Failed, Source};
-use std::io::{Read, Write};
+use std::alloc::{AllocError, Global};
+use std::io::{BufWriter, Read, Write};
 use std::marker::Model;
 
 /// A reader of std, whose bytes left are not told. A contract sees the reader and the count of its errors.
@@ -16,9 +18,9 @@ pub struct StdSource<R> {
 }
 
 impl<R> Model for StdSource<R> {
-    ghost use Rattle.outside.specs.Standard.{AdapterState};
+    ghost use Rattle.outside.specs.Standard.{StdSourceState};
 
-    ghost Value = { AdapterState R };
+    ghost Value = { StdSourceState R };
 
     ghost view = { λ source. record { inner = source.inner; faults = source.faults } };
 }
@@ -37,12 +39,14 @@ impl<R: Read> Source for StdSource<R> {
 
     ghost faults = { λ source. source.faults };
 
-    /// Hands on what the reader answers. Each of its errors is a fault.
+    /// Hands on what the reader answers. Each of its errors is a fault, and nothing else is one.
     fn read(&mut self, into: &mut [u8]) -> Result<usize, Failed>
         ensures count { IfOk result (λ n. n ≤ length into.new) }
         ensures inner { ReadConsumes (R.remaining self.old.inner) (R.remaining self.new.inner) result into.new }
+        ensures faults { MatchResult result (λ _. self.new.faults ≡ self.old.faults) (λ _. self.new.faults ≡ after_fault self.old.faults) }
         ensures later { self.old.faults ≤ self.new.faults }
         ensures failed { OnErr result (Rose self.old.faults self.new.faults) }
+        ensures told { OnOk result (self.new.faults ≡ self.old.faults) }
     {
         match self.inner.read(into) {
             Ok(n) => Ok(n),
@@ -54,48 +58,92 @@ impl<R: Read> Source for StdSource<R> {
     }
 }
 
-/// A writer of std, whose bytes taken are not told. A contract sees the writer and the count of its errors.
+/// The most bytes that a sink over std's writers keeps back.
+const MOST_KEPT: usize = 65_536;
+
+/// A writer of std, whose bytes taken are not told. Small pieces are kept back and handed on together, by the next
+/// piece that there is no room for or by `flush`. A contract sees the writer, the bytes kept back and the count of
+/// errors.
 #[derive(Drop)]
-pub struct StdSink<W> {
-    inner: W,
+pub struct StdSink<W: Write + Drop> {
+    inner: BufWriter<W>,
     faults: u64,
 }
 
-impl<W> Model for StdSink<W> {
-    ghost use Rattle.outside.specs.Standard.{AdapterState};
+impl<W: Write + Drop> Model for StdSink<W> {
+    ghost use Rattle.std.specs.Io.Buffered.{writer_inner, writer_buffer};
+    ghost use Rattle.outside.specs.Standard.{StdSinkState};
 
-    ghost Value = { AdapterState W };
+    ghost Value = { StdSinkState W };
 
-    ghost view = { λ sink. record { inner = sink.inner; faults = sink.faults } };
+    ghost view = { λ sink. record { inner = writer_inner sink.inner; kept = writer_buffer sink.inner; faults = sink.faults } };
 }
 
-impl<W: Write> StdSink<W> {
-    /// A sink over this writer, with no fault yet.
-    pub fn new(inner: W) -> StdSink<W>
-        ensures { result ≡ record { inner = inner; faults = 0 } }
+impl<W: Write + Drop> StdSink<W> {
+    /// A sink over this writer, with no fault yet, that keeps back at most 65,536 bytes. Where there is no memory
+    /// for them the writer is dropped.
+    pub fn new(alloc: Global, inner: W) -> Result<StdSink<W>, AllocError>
+        ensures { IfOk result (λ sink. sink ≡ record { inner = inner; kept = []; faults = 0 }) }
     {
-        StdSink { inner, faults: 0 }
+        match BufWriter::with_capacity(alloc, MOST_KEPT, inner) {
+            Ok(inner) => Ok(StdSink { inner, faults: 0 }),
+            Err(_) => Err(AllocError),
+        }
+    }
+
+    /// A sink over this writer, with no fault yet, that keeps nothing back.
+    pub fn unbuffered(alloc: Global, inner: W) -> StdSink<W>
+        ensures { result ≡ record { inner = inner; kept = []; faults = 0 } }
+    {
+        StdSink {
+            inner: BufWriter::with_capacity(alloc, 0, inner).unwrap(),
+            faults: 0,
+        }
     }
 }
 
-impl<W: Write> Sink for StdSink<W> {
+impl<W: Write + Drop> Sink for StdSink<W> {
     ghost taken = { λ _. None };
 
     ghost faults = { λ sink. sink.faults };
 
+    ghost kept = { λ sink. sink.kept };
+
     /// Hands on what the writer answers. Each of its errors is a fault, and so is an accepted length of 0 for a piece
-    /// that is not empty. Memory is never the answer.
+    /// that is not empty; nothing else is one. Memory is never the answer.
     fn write(&mut self, piece: &[u8]) -> Result<usize, SinkFault>
         ensures count { IfOk result (λ n. n ≤ length piece.now) }
         ensures some { IfOk result (λ n. 0 < length piece.now → 0 < n) }
-        ensures inner { WriteAppends (W.contents self.old.inner) (W.contents self.new.inner) result piece.now }
+        ensures inner { WriteAppends (append_known (W.contents self.old.inner) self.old.kept) (append_known (W.contents self.new.inner) self.new.kept) result piece.now }
+        ensures faults { MatchResult result (λ _. self.new.faults ≡ self.old.faults) (λ _. self.new.faults ≡ after_fault self.old.faults) }
         ensures later { self.old.faults ≤ self.new.faults }
         ensures failed { OnErr result (Rose self.old.faults self.new.faults) }
+        ensures told { OnOk result (self.new.faults ≡ self.old.faults) }
         ensures never_memory { result ≢ Err SinkFault.Memory }
     {
         match self.inner.write(piece) {
             Ok(n) if n > 0 || piece.is_empty() => Ok(n),
             _ => {
+                self.faults = count_fault(self.faults);
+                Err(SinkFault::Failed)
+            }
+        }
+    }
+
+    /// Hands on what is kept back, and flushes the writer. An error of either is a fault, and nothing else is one.
+    /// Memory is never the answer.
+    fn flush(&mut self) -> Result<(), SinkFault>
+        ensures handed_on { OnOk result (self.new.kept ≡ []) }
+        ensures inner { Keeps (append_known (W.contents self.old.inner) self.old.kept) (append_known (W.contents self.new.inner) self.new.kept) }
+        ensures faults { MatchResult result (λ _. self.new.faults ≡ self.old.faults) (λ _. self.new.faults ≡ after_fault self.old.faults) }
+        ensures later { self.old.faults ≤ self.new.faults }
+        ensures failed { OnErr result (Rose self.old.faults self.new.faults) }
+        ensures told { OnOk result (self.new.faults ≡ self.old.faults) }
+        ensures never_memory { result ≢ Err SinkFault.Memory }
+    {
+        match self.inner.flush() {
+            Ok(()) => Ok(()),
+            Err(_) => {
                 self.faults = count_fault(self.faults);
                 Err(SinkFault::Failed)
             }

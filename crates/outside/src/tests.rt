@@ -73,7 +73,7 @@ fn calm_ones_give_and_take_what_fits(rt: HostRuntime) -> Result<(), Fail> {
     Ok(())
 }
 
-/// Gives and takes so many bytes a call, and then fails.
+/// Gives and takes so many bytes a call, one fewer each time, and then fails.
 #[derive(Drop)]
 struct Fading {
     most: usize,
@@ -114,9 +114,102 @@ fn std_ones_hand_on_what_they_are_answered(rt: HostRuntime) {
     assert_eq!(rt; source.read(&mut into), Ok(1));
     assert_eq!(rt; source.read(&mut into), Ok(0));
     assert_eq!(rt; source.read(&mut into), Err(Failed));
-    let mut sink = StdSink::new(Fading { most: 2 });
+    let mut sink = StdSink::unbuffered(rt.alloc(), Fading { most: 2 });
     assert_eq!(rt; sink.write(b"abcd"), Ok(1));
     assert_eq!(rt; sink.write(b"bcd"), Err(SinkFault::Failed));
     assert_eq!(rt; sink.write(b"bcd"), Err(SinkFault::Failed));
-    assert_eq!(rt; StdSink::new(Fading { most: 1 }).write(b""), Ok(0));
+    assert_eq!(rt;
+        StdSink::unbuffered(rt.alloc(), Fading { most: 1 }).write(b""),
+        Ok(0)
+    );
+}
+
+/// Gives a byte a call, but for one call, which fails.
+#[derive(Drop)]
+struct Stumbling {
+    left: u32,
+    fails_at: u32,
+}
+
+impl Read for Stumbling {
+    fn read(&mut self, into: &mut [u8]) -> io::Result<usize> {
+        if self.left == 0 || into.is_empty() {
+            return Ok(0);
+        }
+        self.left -= 1;
+        if self.left == self.fails_at {
+            return Err(ErrorKind::Other.into());
+        }
+        into[0] = 7;
+        Ok(1)
+    }
+}
+
+#[test]
+fn a_reader_that_fails_once_has_failed(rt: HostRuntime) {
+    for fails_at in [0, 1, 4] {
+        let mut source = StdSource::new(Stumbling { left: 5, fails_at });
+        let read = read_all(rt.alloc(), &mut source, 9);
+        assert_eq!(rt; read.map(|bytes| bytes.len()), Err(Unread::Failed));
+    }
+    let mut source = StdSource::new(Stumbling {
+        left: 5,
+        fails_at: 5,
+    });
+    let read = read_all(rt.alloc(), &mut source, 9);
+    assert_eq!(rt; read.map(|bytes| bytes.len()), Ok(5));
+}
+
+/// Counts the writes and their bytes, and fails at a flush where it is told to.
+#[derive(Drop)]
+struct Tally {
+    writes: u32,
+    bytes: usize,
+    flush_fails: bool,
+}
+
+impl Write for Tally {
+    fn write(&mut self, piece: &[u8]) -> io::Result<usize> {
+        self.writes = self.writes.saturating_add(1);
+        self.bytes = self.bytes.saturating_add(piece.len());
+        Ok(piece.len())
+    }
+
+    fn flush(&mut self) -> io::Result<()> {
+        if self.flush_fails {
+            Err(ErrorKind::Other.into())
+        } else {
+            Ok(())
+        }
+    }
+}
+
+#[test]
+fn small_pieces_are_handed_on_together(rt: HostRuntime) -> Result<(), Fail> {
+    let mut tally = Tally {
+        writes: 0,
+        bytes: 0,
+        flush_fails: false,
+    };
+    let mut sink = StdSink::new(rt.alloc(), &mut tally)?;
+    for _ in 0..3000 {
+        assert_eq!(rt; offer(&mut sink, &[7; 50]), Ok(()));
+    }
+    assert_eq!(rt; sink.flush(), Ok(()));
+    drop(sink);
+    assert_eq!(rt; (tally.bytes, tally.writes), (150_000, 3));
+    Ok(())
+}
+
+#[test]
+fn a_flush_that_fails_is_a_fault(rt: HostRuntime) -> Result<(), Fail> {
+    let tally = Tally {
+        writes: 0,
+        bytes: 0,
+        flush_fails: true,
+    };
+    let mut sink = StdSink::new(rt.alloc(), tally)?;
+    assert_eq!(rt; offer(&mut sink, b"abc"), Ok(()));
+    assert_eq!(rt; sink.flush(), Err(SinkFault::Failed));
+    Ok(())
 }

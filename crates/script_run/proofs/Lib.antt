@@ -1,2 +1,5 @@
+pub mod Answering
 pub mod LongPaths
+pub mod PackedWords
+pub mod Pids
 pub mod PlainRecords

@@ -1,9 +1,10 @@
 use Rattle.std.proofs.Common.{◌≡◌, ℕ, List, Ok, Err, IfOk, subst, sym}
 use Rattle.std.specs.Prelude.{Result}
-use Rattle.script_spec.specs.Grammar.{ScriptLine, parse}
+use Rattle.script_spec.specs.Lines.{ScriptLine}
+use Rattle.script_spec.specs.Grammar.{parse}
 use Rattle.record_spec.specs.declared.RunRecord.{RunRecord}
-use Rattle.record_spec.specs.Replays.{replayed}
-use Rattle.record_spec.specs.Plain.{IsPlain}
+use Rattle.replay_spec.specs.Replays.{replayed}
+use Rattle.replay_spec.specs.Plain.{IsPlain}
 use Rattle.plain_records.proofs.Replays.{replayed_is_plain}
 
 -- the replayed record of a script that was read is plain

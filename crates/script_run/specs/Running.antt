@@ -1,6 +1,6 @@
 use Rattle.std.specs.Prelude.{◌≡◌, ◌≤◌, ◌+◌, length}
 use Rattle.rule_fold.specs.Index.{StandsFor}
-use Rattle.record_spec.specs.Replays.{Run}
+use Rattle.replay_spec.specs.Replays.{Run}
 use Rattle.script_run.specs.declared.runner.Runner.{Runner}
 
 -- what a runner leaves

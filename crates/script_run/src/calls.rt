@@ -1,10 +1,16 @@
-ghost use Rattle.std.specs.Prelude.{◌≡◌, IfOk};
+ghost use Rattle.std.specs.Prelude.{◌≡◌, ◌≤◌, ◌<◌, length, position, IfOk, IfSome};
+ghost use Rattle.std.specs.Str.{bytes_eq};
+ghost use Rattle.script_spec.specs.Grammar.{most_tasks};
 ghost use Rattle.script_text.specs.Lines.{call_seen};
-ghost use Rattle.record_spec.specs.Calls.{path_in as path_of_word, task_call as task_call_of, tree_call as tree_call_of};
+ghost use Rattle.script_spec.specs.Words.{signal_of as signal_of_word, trace_way_of as way_of_word};
+ghost use Rattle.replay_spec.specs.Calls.{of_two, traced, path_in as path_of_word, pid_in as pid_of_word, task_call as task_call_of, tree_call as tree_call_of};
 
+use crate::words::words_of;
 use label_table::Labels;
-use script_text::{Line, MOST_BYTES, TaskVerb, TreeVerb, cap_of, number_of};
-use smack_base::{Path, PathFault};
+use script_text::{
+    Line, MOST_BYTES, TaskVerb, TraceWay, TreeVerb, cap_of, number_of, signal_of, trace_way_of,
+};
+use smack_base::{Bytes, Path, PathFault, Pid};
 use smack_world::{TaskCall, TreeCall};
 use std::alloc::{AllocError, Global};
 
@@ -23,19 +29,74 @@ fn path_in(alloc: Global, word: &[u8]) -> Result<Option<Path>, AllocError>
     }
 }
 
-/// The call that a line makes on its task; None where its words are not of their kinds.
-pub fn task_call(labels: &Labels, line: &Line<'_>, verb: TaskVerb) -> Option<TaskCall>
-    ensures { result ≡ task_call_of labels.now (call_seen line.now) verb }
+fn place_in(names: &[Bytes], word: &[u8]) -> Option<usize>
+    ensures place { result ≡ position (λ name. bytes_eq name word.now) names.now }
+    ensures within { IfSome result (λ at. at < length names.now) }
 {
+    names.iter().position(|name| name.items() == word)
+}
+
+/// The pid of the task that a word names; None where no task has the name.
+#[tactic(auto, using(crate::proofs::Pids::pid_at, crate::proofs::Pids::no_pid))]
+pub fn pid_in(names: &[Bytes], word: &[u8]) -> Option<Pid>
+    requires { length names.now ≤ most_tasks }
+    ensures { result ≡ pid_of_word names.now word.now }
+{
+    match place_in(names, word) {
+        Some(pid) => Some(Pid(pid as u16)),
+        None => None,
+    }
+}
+
+fn kill(names: &[Bytes], name: &[u8], signal: &[u8]) -> Option<TaskCall>
+    requires { length names.now ≤ most_tasks }
+    ensures { result ≡ of_two (pid_of_word names.now name.now) (signal_of_word signal.now) (λ pid sig. TaskCall.Kill pid sig) }
+{
+    match (pid_in(names, name), signal_of(signal)) {
+        (Some(pid), Some(sig)) => Some(TaskCall::Kill { pid, sig }),
+        _ => None,
+    }
+}
+
+fn trace(names: &[Bytes], way: &[u8], name: &[u8]) -> Option<TaskCall>
+    requires { length names.now ≤ most_tasks }
+    ensures { result ≡ of_two (way_of_word way.now) (pid_of_word names.now name.now) traced }
+{
+    match (trace_way_of(way), pid_in(names, name)) {
+        (Some(TraceWay::Read), Some(pid)) => Some(TaskCall::TraceRead { pid }),
+        (Some(TraceWay::Attach), Some(pid)) => Some(TaskCall::TraceAttach { pid }),
+        _ => None,
+    }
+}
+
+/// The call that a line makes on tasks; None where its words are not of their kinds.
+pub fn task_call(
+    labels: &Labels,
+    names: &[Bytes],
+    line: &Line<'_>,
+    verb: TaskVerb,
+) -> Option<TaskCall>
+    requires { length names.now ≤ most_tasks }
+    ensures { result ≡ task_call_of labels.now names.now (call_seen line.now) verb }
+{
+    let words = words_of(line);
     match verb {
-        TaskVerb::Relabel => match labels.id(line.one.bytes) {
+        TaskVerb::Fork => match pid_in(names, words.one) {
+            Some(pid) => Some(TaskCall::Fork { pid }),
+            None => None,
+        },
+        TaskVerb::Exit => Some(TaskCall::Exit),
+        TaskVerb::Relabel => match labels.id(words.one) {
             Some(l) => Some(TaskCall::Relabel { l }),
             None => None,
         },
-        TaskVerb::Drop => match cap_of(line.one.bytes) {
+        TaskVerb::Drop => match cap_of(words.one) {
             Some(cap) => Some(TaskCall::DropCap { cap }),
             None => None,
         },
+        TaskVerb::Kill => kill(names, words.one, words.two),
+        TaskVerb::Take => Some(TaskCall::Take),
+        TaskVerb::Trace => trace(names, words.one, words.two),
     }
 }
 
@@ -43,10 +104,11 @@ pub fn task_call(labels: &Labels, line: &Line<'_>, verb: TaskVerb) -> Option<Tas
 fn listing(alloc: Global, line: &Line<'_>) -> Result<Option<TreeCall>, AllocError>
     ensures { IfOk result (λ call. call ≡ tree_call_of (call_seen line.now) TreeVerb.List) }
 {
-    let Some(path) = path_in(alloc, line.one.bytes)? else {
+    let words = words_of(line);
+    let Some(path) = path_in(alloc, words.one)? else {
         return Ok(None);
     };
-    match number_of(line.two.bytes) {
+    match number_of(words.two) {
         Some(at) => Ok(Some(TreeCall::ListDir { path, at })),
         None => Ok(None),
     }
@@ -61,11 +123,11 @@ pub fn tree_call(
     ensures { IfOk result (λ call. call ≡ tree_call_of (call_seen line.now) verb) }
 {
     match verb {
-        TreeVerb::Create => match path_in(alloc, line.one.bytes)? {
+        TreeVerb::Create => match path_in(alloc, words_of(line).one)? {
             Some(path) => Ok(Some(TreeCall::Create { path })),
             None => Ok(None),
         },
-        TreeVerb::Unlink => match path_in(alloc, line.one.bytes)? {
+        TreeVerb::Unlink => match path_in(alloc, words_of(line).one)? {
             Some(path) => Ok(Some(TreeCall::Unlink { path })),
             None => Ok(None),
         },

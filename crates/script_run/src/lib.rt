@@ -12,6 +12,7 @@
 mod calls;
 mod replaying;
 mod runner;
+mod words;
 
 pub use record_spec::RunRecord;
 pub use replaying::replay;

@@ -1,35 +1,46 @@
-ghost use Rattle.std.specs.Prelude.{◌≡◌, ◌≤◌, ℕ, List, ◌∷◌, [], Ok, length, map, codes, IfOk};
-ghost use Rattle.script_spec.specs.Grammar.{most_lines, parse};
+ghost use Rattle.std.specs.Prelude.{◌≡◌, ◌≤◌, ℕ, List, ◌∷◌, ◌++◌, [], Ok, length, map, IfOk};
+ghost use Rattle.script_spec.specs.Grammar.{most_lines, most_tasks, parse};
+ghost use Rattle.script_spec.specs.Tasks.{task_names};
 ghost use Rattle.script_text.specs.Lines.{call_seen};
-ghost use Rattle.record_spec.specs.Plain.{IsPlain};
-ghost use Rattle.record_spec.specs.Replays.{run_of, replayed};
+ghost use Rattle.script_text.specs.TaskTables.{names_in};
+ghost use Rattle.replay_spec.specs.Plain.{IsPlain};
+ghost use Rattle.replay_spec.specs.Replays.{run_of, replayed};
 ghost use Rattle.script_run.specs.Running.{seen, IsRunning};
 
 use crate::runner::Runner;
 use label_table::Labels;
 use record_spec::RunRecord;
+use rule_text::Part;
 use script_text::{Line, Script};
 use smack_base::{Bytes, NameList};
 use std::alloc::{AllocError, Global};
 
 /// Runs calls in order.
-fn run_lines(alloc: Global, labels: &Labels, lines: &[Line<'_>]) -> Result<Runner, AllocError>
-    requires { length lines.now ≤ most_lines }
-    ensures { IfOk result (λ run. seen run ≡ run_of labels.now (map call_seen lines.now)) }
+fn run_lines(
+    alloc: Global,
+    labels: &Labels,
+    names: &[Bytes],
+    lines: &[Line<'_>],
+) -> Result<Runner, AllocError>
+    requires lines { length lines.now ≤ most_lines }
+    requires names { length names.now ≤ most_tasks }
+    ensures { IfOk result (λ run. seen run ≡ run_of labels.now names.now (map call_seen lines.now)) }
 {
     let mut run = Runner::new(alloc)?;
     for line in lines {
-        run.step(alloc, labels, line)?;
+        run.step(alloc, labels, names, line)?;
     }
     Ok(run)
 }
 
-/// The names of the tasks: only the first task.
-fn names(alloc: Global) -> Result<NameList, AllocError>
-    ensures { IfOk result (λ names. names ≡ codes "init" ∷ []) }
+/// The names of tasks, copied.
+fn names_of(alloc: Global, tasks: &[Part<'_>]) -> Result<NameList, AllocError>
+    ensures { IfOk result (λ names. names ≡ names_in tasks.now) }
 {
     let mut names = NameList::new(alloc);
-    names.push(Bytes::from_slice(alloc, b"init")?)?;
+    for task in tasks {
+        names.push(Bytes::from_slice(alloc, task.bytes)?)?;
+    }
     Ok(names)
 }
 
@@ -38,19 +49,19 @@ fn record_of(alloc: Global, script: &Script<'_>) -> Result<RunRecord, AllocError
     ensures { IfOk result (λ r. r ≡ replayed script.now) }
 {
     let labels = script.labels()?;
-    let names = names(alloc)?;
+    let names = names_of(alloc, script.tasks())?;
     let Runner {
         rules: _,
         journal,
         world,
         asked,
-    } = run_lines(alloc, &labels, script.lines())?;
+    } = run_lines(alloc, &labels, names.items(), script.lines())?;
     Ok(RunRecord {
         labels,
         names,
         journal,
         history: world.into_trail(),
-        asked,
+        asked: asked.into_lines(alloc)?,
     })
 }
 

@@ -1,12 +1,10 @@
-use Rattle.std.proofs.Common.{◌≡◌, ℕ, List, arith, refl, Some, inl, inr}
-use Rattle.outside.specs.Faults.{Rose}
-use Rattle.smack_program.specs.Top.{IsCalm}
+use Rattle.std.proofs.Common.{ℕ, List, refl, Some}
+use Rattle.std.specs.Prelude.{Option}
+use Rattle.outside.proofs.Rising.{zero_never_rises}
+use Rattle.smack_program.specs.Ends.{IsCalm}
 
--- a count that is always 0 does not rise
-not_rose : Rose 0 0 → ⊥
-not_rose (inl less) = omega (arith, less)
-not_rose (inr last) = omega (arith, last)
-
--- a source and a sink without faults are calm
-pub calm : (bytes : List ℕ) → IsCalm bytes (Some bytes) 0 0 0 0
-calm bytes = record { told = refl; read = not_rose; written = not_rose }
+-- a source and a sink whose counts are always 0 are calm
+pub calm : (bytes : List ℕ) (left taken taken' : Option (List ℕ))
+    → IsCalm bytes (record { bytes = Some bytes; faults = 0 }) (record { bytes = left; faults = 0 }) (record { bytes = taken; faults = 0 })
+    (record { bytes = taken'; faults = 0 })
+calm bytes left taken taken' = record { told = refl; read = zero_never_rises; written = zero_never_rises }

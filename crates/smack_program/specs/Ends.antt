@@ -1,39 +1,63 @@
-use Rattle.std.specs.Prelude.{◌≡◌, ◌≢◌, ◌<◌, ◌⊎◌, ℕ, List, Option, Ok, Err, IfSome, IsSomeAnd}
-use Rattle.outside.specs.Faults.{Rose}
+use Rattle.std.specs.Prelude.{◌≡◌, ◌≢◌, ◌<◌, ◌⊎◌, ℕ, List, Some, Result, Ok, Err, IsTrue, IfSome, IsSomeAnd}
+use Rattle.outside.specs.Faults.{Rose, AreTold}
+use Rattle.outside.specs.Seen.{Seen}
+use Rattle.outside.specs.Source.{Takes, AtEnd}
+use Rattle.outside.specs.Sink.{Appends, AppendsFront}
 use Rattle.outside.specs.Reading.{taken_count}
-use Rattle.script_spec.specs.declared.ScriptFault.{ScriptFault}
-use Rattle.script_spec.specs.declared.ScriptFault.TheVariants.{TooLarge as Exceeds, Memory}
 use Rattle.script_spec.specs.declared.What.TheVariants.{Bytes}
-use Rattle.script_spec.specs.Grammar.{ScriptLine, parse, most_bytes}
 use Rattle.smack_program.specs.declared.status.Status.{Status}
 use Rattle.smack_program.specs.declared.status.Status.TheVariants.{Done, Usage, ReadFault, WriteFault, OutOfMemory, TooLarge}
-use Rattle.smack_program.specs.Statuses.{status_of}
-use Rattle.smack_program.specs.Top.{IsReplayed, IsCutShort, IsRefused, IsCalm}
+use Rattle.smack_program.specs.Statuses.{answer_status, is_refusal}
 
--- How a replay ended, by the bytes that stood in the source and stand there now, its counts of faults, what the sink had
--- taken and has taken now, and its counts of faults.
-pub record ReplayEnds (left left' : Option (List ℕ)) (s s' : ℕ) (taken taken' : Option (List ℕ)) (k k' : ℕ) (result : Status) : Type 0 where
-  -- the source was read to its end, the bytes read are a script, and the text of its replayed record was written
-  pub done : result ≡ Done → IsReplayed left left' taken taken'
-  -- the source was read to its end, and this is the first line that breaks the grammar or a limit
-  pub refused : (fault : ScriptFault) → fault ≢ Memory → fault ≢ Exceeds Bytes → result ≡ status_of fault → IsRefused left left' fault
-  -- too many bytes come exactly where more were taken than a script may have
-  pub large : result ≡ TooLarge Bytes → IfSome (taken_count left left') (λ n. most_bytes < n)
-  pub exceeded : IsSomeAnd (taken_count left left') (λ n. most_bytes < n) → (result ≡ TooLarge Bytes) ⊎ (result ≡ OutOfMemory)
-  -- a fault of reading or writing comes only where the count rose
-  pub read : result ≡ ReadFault → Rose s s'
-  pub write : result ≡ WriteFault → Rose k k'
-  -- what a fault of writing leaves is a front of the text
-  pub cut : result ≡ WriteFault → IsCutShort left left' taken taken'
-  -- want of memory leaves nothing written, or a front of the text
-  pub spent : result ≡ OutOfMemory → (taken' ≡ taken) ⊎ IsCutShort left left' taken taken'
-  -- every other answer leaves nothing written
-  pub unwritten : result ≢ Done → result ≢ WriteFault → result ≢ OutOfMemory → taken' ≡ taken
-  -- a script that stood in a source is done, where nothing failed and memory was had
-  pub complete : (bytes : List ℕ) (lines : List ScriptLine) → IsCalm bytes left s s' k k' → parse bytes ≡ Ok lines
-      → (result ≡ Done) ⊎ (result ≡ OutOfMemory)
-  -- other bytes are refused for their fault
-  pub refuses : (bytes : List ℕ) (fault : ScriptFault) → IsCalm bytes left s s' k k' → parse bytes ≡ Err fault
-      → (result ≡ status_of fault) ⊎ (result ≡ OutOfMemory)
-  -- usage is not an answer of a replay
-  pub words : result ≢ Usage
+-- A command answers the bytes that it reads: `answers bytes (Ok text)` says that this text is an answer to them, and
+-- `answers bytes (Err status)` that they are refused with this status.
+
+-- these bytes were taken from the source, up to its end
+abbrev pub WasRead : Seen → Seen → List ℕ → Type 0
+WasRead source source' bytes = Takes source.bytes source'.bytes bytes × AtEnd source'.bytes
+
+-- the source was read to its end, and a text that answers the bytes read was written
+abbrev pub IsAnswered : (List ℕ → Result (List ℕ) Status → Type 0) → Seen → Seen → Seen → Seen → Type 0
+IsAnswered answers source source' sink sink' = (bytes text : List ℕ) × WasRead source source' bytes × answers bytes (Ok text)
+    × Appends sink.bytes sink'.bytes text
+
+-- the same, with a front of the text written
+abbrev pub IsCutShort : (List ℕ → Result (List ℕ) Status → Type 0) → Seen → Seen → Seen → Seen → Type 0
+IsCutShort answers source source' sink sink' = (bytes text : List ℕ) × WasRead source source' bytes × answers bytes (Ok text)
+    × AppendsFront sink.bytes sink'.bytes text
+
+-- the source was read to its end, and the bytes read are refused with this status
+abbrev pub IsRefused : (List ℕ → Result (List ℕ) Status → Type 0) → Seen → Seen → Status → Type 0
+IsRefused answers source source' status = (bytes : List ℕ) × WasRead source source' bytes × answers bytes (Err status)
+
+-- these bytes stood in the source, and neither the source nor the sink failed
+pub record IsCalm (bytes : List ℕ) (source source' sink sink' : Seen) : Type 0 where
+  pub told : source.bytes ≡ Some bytes
+  pub read : Rose source.faults source'.faults → ⊥
+  pub written : Rose sink.faults sink'.faults → ⊥
+
+-- How a command ended that reads its input, of at most so many bytes, and writes an answer to it: what is seen of the
+-- source before and after, the same of the sink, and the status.
+pub record CommandEnds (answers : List ℕ → Result (List ℕ) Status → Type 0) (most : ℕ) (source source' sink sink' : Seen)
+    (status : Status) : Type 0 where
+  -- what was taken from the source is a front of what it had
+  pub front : (bytes : List ℕ) × Takes source.bytes source'.bytes bytes
+  -- the source was read to its end, and an answer to the bytes read was written
+  pub done : status ≡ Done → IsAnswered answers source source' sink sink'
+  -- the source was read to its end, and the bytes read are refused with this status
+  pub refused : IsTrue (is_refusal status) → IsRefused answers source source' status
+  -- too many bytes come exactly where more were taken than may be
+  pub large : status ≡ TooLarge Bytes → IfSome (taken_count source.bytes source'.bytes) (λ n. most < n)
+  pub exceeded : IsSomeAnd (taken_count source.bytes source'.bytes) (λ n. most < n) → (status ≡ TooLarge Bytes) ⊎ (status ≡ OutOfMemory)
+  -- a fault of reading is told, and so is a fault of writing: each comes where its count rose, and only there
+  pub read : AreTold source.faults source'.faults (status ≡ ReadFault)
+  pub write : AreTold sink.faults sink'.faults (status ≡ WriteFault)
+  -- what a fault of writing leaves is a front of an answer
+  pub cut : status ≡ WriteFault → IsCutShort answers source source' sink sink'
+  -- want of memory leaves nothing written, or a front of an answer
+  pub spent : status ≡ OutOfMemory → (sink'.bytes ≡ sink.bytes) ⊎ IsCutShort answers source source' sink sink'
+  -- where nothing failed, bytes with an answer get it, but for want of memory
+  pub complete : (bytes : List ℕ) (answer : Result (List ℕ) Status) → IsCalm bytes source source' sink sink' → answers bytes answer
+      → (status ≡ answer_status answer) ⊎ (status ≡ OutOfMemory)
+  -- the words of the command line are those of a command
+  pub words : status ≢ Usage

@@ -1,3 +1,5 @@
 pub mod Statuses
-pub mod Top
+pub mod Errors
 pub mod Ends
+pub mod Replay
+pub mod Program

@@ -1,6 +1,7 @@
 ghost use Rattle.std.specs.Prelude.{◌≡◌, ◌⊎◌, List, Ok, Err};
 ghost use Rattle.script_spec.specs.declared.ScriptFault.{ScriptFault as ScriptFaultOf};
-ghost use Rattle.script_spec.specs.Grammar.{ScriptLine, parse};
+ghost use Rattle.script_spec.specs.Grammar.{parse};
+ghost use Rattle.script_spec.specs.Lines.{ScriptLine};
 ghost use Rattle.smack_program.specs.Statuses.{status_of};
 
 use crate::status::Status;

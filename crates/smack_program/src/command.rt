@@ -1,5 +1,5 @@
 ghost use Rattle.std.specs.Prelude.{◌≡◌, ◌↔◌, map, string_bytes, IsTrue};
-ghost use Rattle.smack_program.specs.Top.{AreReplay};
+ghost use Rattle.smack_program.specs.Replay.{AreReplay};
 
 /// Whether the words of the command line are those of `replay`.
 pub fn is_replay(words: &[String]) -> bool

@@ -1,5 +1,5 @@
 ghost use Rattle.std.specs.Prelude.{◌≡◌};
-ghost use Rattle.smack_program.specs.Top.{GivesRecord};
+ghost use Rattle.smack_program.specs.Replay.{GivesReplay};
 
 use record_spec::RunRecord;
 use script_run::replay;
@@ -7,8 +7,8 @@ use script_text::{Script, ScriptFault};
 use std::alloc::Global;
 
 /// The record of the script that these bytes are, when it is replayed.
-pub fn record_of(alloc: Global, bytes: &[u8]) -> Result<RunRecord, ScriptFault>
-    ensures { GivesRecord bytes.now result }
+pub fn replay_bytes(alloc: Global, bytes: &[u8]) -> Result<RunRecord, ScriptFault>
+    ensures { GivesReplay bytes.now result }
 {
     let script = match Script::read(alloc, bytes) {
         Ok(script) => script,

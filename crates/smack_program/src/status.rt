@@ -2,7 +2,6 @@ ghost use Rattle.std.specs.Prelude.{◌≡◌};
 ghost use Rattle.smack_program.specs.Statuses.{status_of, code_of};
 
 use script_text::{Cause, ScriptFault, What};
-use std::fmt;
 
 /// How the program ended.
 #[derive(Clone, Copy, Debug, PartialEq, Eq)]
@@ -47,51 +46,6 @@ impl Status {
             Status::WriteFault => 5,
             Status::OutOfMemory => 6,
             Status::TooLarge { what: _ } => 7,
-        }
-    }
-}
-
-fn put_cause<W: fmt::Write>(f: &mut fmt::Formatter<W>, cause: Cause) -> fmt::Result {
-    match cause {
-        Cause::Task => write!(f, "task"),
-        Cause::Verb => write!(f, "verb"),
-        Cause::Words => write!(f, "words"),
-        Cause::Word { k } => write!(f, "word {k}"),
-        Cause::Text => write!(f, "text"),
-        Cause::Name => write!(f, "name"),
-        Cause::Wait => write!(f, "wait"),
-        Cause::NotBuilt => write!(f, "not-built"),
-    }
-}
-
-fn name_of(what: What) -> &'static str {
-    match what {
-        What::Bytes => "bytes",
-        What::Lines => "lines",
-        What::Tasks => "tasks",
-        What::Labels => "labels",
-        What::Text => "text",
-        What::Rows => "rows",
-    }
-}
-
-/// The words behind `smack: ` on standard error.
-impl fmt::Display for Status {
-    fn fmt<W: fmt::Write>(&self, f: &mut fmt::Formatter<W>) -> fmt::Result {
-        match *self {
-            Status::Done => write!(f, "done"),
-            Status::Usage => write!(f, "usage"),
-            Status::Malformed { line, cause } => {
-                write!(f, "line {line}: ")?;
-                put_cause(f, cause)
-            }
-            Status::ReadFault => write!(f, "read fault"),
-            Status::WriteFault => write!(f, "write fault"),
-            Status::OutOfMemory => write!(f, "out of memory"),
-            Status::TooLarge { what } => {
-                let name = name_of(what);
-                write!(f, "too large: {name}")
-            }
         }
     }
 }

@@ -1,19 +1,46 @@
-ghost use Rattle.std.specs.Prelude.{◌≡◌, ◌↔◌, map, string_bytes};
-ghost use Rattle.smack_program.specs.Top.{AreReplay};
-ghost use Rattle.smack_program.specs.Ends.{ReplayEnds};
+ghost use Rattle.std.specs.Prelude.{◌≡◌, ◌≢◌, ◌≤◌, ◌+◌, ◌↔◌, [], Err, OnOk, OnErr, IsFalse, map, string_bytes};
+ghost use Rattle.outside.specs.Faults.{Rose};
+ghost use Rattle.outside.specs.Seen.{seen};
+ghost use Rattle.outside.specs.Sink.{Appends, AppendsFront};
+ghost use Rattle.outside.specs.Reading.{ReadsAtMost};
+ghost use Rattle.script_spec.specs.Grammar.{most_bytes};
+ghost use Rattle.record_spec.specs.Show.{show};
+ghost use Rattle.smack_program.specs.Statuses.{may_have_written};
+ghost use Rattle.smack_program.specs.Replay.{AreReplay, ReplayEnds};
 
 use crate::command::is_replay;
-use crate::replaying::record_of;
+use crate::replaying::replay_bytes;
 use crate::status::Status;
-use outside::{Sink, Source, Unread, read_all};
+use outside::{Sink, SinkFault, Source, Unread, read_all};
+use record_spec::RunRecord;
 use run_report::{ReportFault, put_record};
 use script_text::{MOST_BYTES, What};
 use std::alloc::Global;
 
+/// Writes the text of a record, and hands on all that the sink keeps back.
+fn write_record<K: Sink>(alloc: Global, r: &RunRecord, sink: &mut K) -> Result<(), ReportFault>
+    ensures ok { OnOk result (Appends (K.taken sink.old) (K.taken sink.new) (show r.now)) }
+    ensures handed_on { OnOk result (K.kept sink.new ≡ []) }
+    ensures err { OnErr result (AppendsFront (K.taken sink.old) (K.taken sink.new) (show r.now)) }
+    ensures later { K.faults sink.old ≤ K.faults sink.new }
+    ensures failed { result ≡ Err ReportFault.Failed → Rose (K.faults sink.old) (K.faults sink.new) }
+    ensures told { result ≢ Err ReportFault.Failed → K.faults sink.new ≡ K.faults sink.old }
+{
+    put_record(alloc, r, sink)?;
+    match sink.flush() {
+        Ok(()) => Ok(()),
+        Err(SinkFault::Failed) => Err(ReportFault::Failed),
+        Err(SinkFault::Memory) => Err(ReportFault::Memory),
+    }
+}
+
 /// Reads a script to its end, replays it and writes its record. It waits for nobody. Nothing is
-/// written before the replay has ended.
+/// written before the replay has ended, and at `Done` the sink keeps nothing back.
 pub fn replay_main<S: Source, K: Sink>(alloc: Global, source: &mut S, sink: &mut K) -> Status
-    ensures { ReplayEnds (S.left source.old) (S.left source.new) (S.faults source.old) (S.faults source.new) (K.taken sink.old) (K.taken sink.new) (K.faults sink.old) (K.faults sink.new) result }
+    ensures ends { ReplayEnds (seen S.left S.faults source.old) (seen S.left S.faults source.new) (seen K.taken K.faults sink.old) (seen K.taken K.faults sink.new) result }
+    ensures handed_on { result ≡ Status.Done → K.kept sink.new ≡ [] }
+    ensures untouched { IsFalse (may_have_written result) → sink.new ≡ sink.old }
+    ensures reads { ReadsAtMost (S.reads source.old) (S.reads source.new) (most_bytes + 2) }
 {
     let bytes = match read_all(alloc, source, MOST_BYTES) {
         Ok(bytes) => bytes,
@@ -21,11 +48,11 @@ pub fn replay_main<S: Source, K: Sink>(alloc: Global, source: &mut S, sink: &mut
         Err(Unread::TooMany) => return Status::TooLarge { what: What::Bytes },
         Err(Unread::Memory) => return Status::OutOfMemory,
     };
-    let record = match record_of(alloc, bytes.as_slice()) {
+    let record = match replay_bytes(alloc, bytes.as_slice()) {
         Ok(record) => record,
         Err(fault) => return Status::of_fault(fault),
     };
-    match put_record(alloc, &record, sink) {
+    match write_record(alloc, &record, sink) {
         Ok(()) => Status::Done,
         Err(ReportFault::Failed) => Status::WriteFault,
         Err(ReportFault::Memory) => Status::OutOfMemory,
@@ -40,10 +67,12 @@ pub fn smack_main<S: Source, K: Sink>(
     source: &mut S,
     sink: &mut K,
 ) -> Status
-    ensures replays { AreReplay (map string_bytes words.now) → ReplayEnds (S.left source.old) (S.left source.new) (S.faults source.old) (S.faults source.new) (K.taken sink.old) (K.taken sink.new) (K.faults sink.old) (K.faults sink.new) result }
+    ensures replays { AreReplay (map string_bytes words.now) → ReplayEnds (seen S.left S.faults source.old) (seen S.left S.faults source.new) (seen K.taken K.faults sink.old) (seen K.taken K.faults sink.new) result }
     ensures usage { (result ≡ Status.Usage) ↔ (¬ AreReplay (map string_bytes words.now)) }
     ensures unread { result ≡ Status.Usage → source.new ≡ source.old }
-    ensures unwritten { result ≡ Status.Usage → sink.new ≡ sink.old }
+    ensures handed_on { result ≡ Status.Done → K.kept sink.new ≡ [] }
+    ensures untouched { IsFalse (may_have_written result) → sink.new ≡ sink.old }
+    ensures reads { ReadsAtMost (S.reads source.old) (S.reads source.new) (most_bytes + 2) }
 {
     if is_replay(words) {
         replay_main(alloc, source, sink)

@@ -1,0 +1,10 @@
+use Rattle.std.specs.Prelude.{ℕ, List, Option}
+
+-- what is seen of a source or of a sink: its bytes, those left or those taken, where it tells them; its count of faults
+pub record Seen : Type 0 where
+  pub bytes : Option (List ℕ)
+  pub faults : ℕ
+
+-- what is seen of this one, by the meanings that its type has
+abbrev pub seen : {T : Type 0} → (T → Option (List ℕ)) → (T → ℕ) → T → Seen
+seen bytes faults it = record { bytes = bytes it; faults = faults it }

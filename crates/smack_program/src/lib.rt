@@ -1,0 +1,25 @@
+//! The whole program, over any source, any sink and any standard error.
+//!
+//! `smack_main` does what the words of the command line say; its contract says what was read and
+//! written at each status. `told_main` tells that status on standard error too, and gives the exit
+//! status. `program` calls it over the streams of std.
+//!
+//! Stands on script_text, script_run and run_report for a script, its run and its text, and on
+//! outside for the source and the sinks.
+#![tactic(auto)]
+
+mod calm;
+mod command;
+mod replaying;
+mod running;
+mod status;
+mod telling;
+#[cfg(test)]
+mod tests;
+mod top;
+
+pub use calm::replay_calm;
+pub use running::{Ending, program, told_main};
+pub use status::Status;
+pub use telling::tell;
+pub use top::{replay_main, smack_main};
