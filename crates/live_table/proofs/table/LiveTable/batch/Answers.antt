@@ -1,0 +1,95 @@
+use Rattle.std.proofs.Common.{arith, ap, sym, subst, ◌∙◌, ◌+◌, length, Some}
+use Rattle.live_table.specs.Batches.{words_of, OpsAt, first_of}
+use Rattle.live_table.specs.Seats.{SeatValue}
+use Rattle.live_table.proofs.Cuts.{headed, heads_it, heads_some, cut_end, first_rows_of}
+use Rattle.live_table.proofs.table.LiveTable.batch.Goals as goal
+
+pub returns-then-at-rows_seen-clause-batch : goal.returns-then-at-rows_seen-clause-batch
+returns-then-at-rows_seen-clause-batch g c = λ front rest d.
+    let rows = c.rows_seen.ensures.rows in
+    let end = c.if-at-rows_seen.true in
+    ap first_of (sym (cut_end d (omega arith)))
+
+pub unreachable-requires : goal.unreachable-requires
+unreachable-requires g c =
+    let cut = c.requires.cut in
+    let rows = c.rows_seen.ensures.rows in
+    let inside = c.if-at-rows_seen.false in
+    heads_some (headed _ cut.0 cut.1 c.args.at c.rows_seen.ensures.packed cut.2
+    (omega arith)) c.unpack_head.result c.row.ensures.word c.unpack_head.ensures.inverts c.in-None.is
+
+pub ops_at-requires-clause-room : goal.ops_at-requires-clause-room
+ops_at-requires-clause-room g c =
+    let cut = c.requires.cut in
+    let rows = c.rows_seen.ensures.rows in
+    let few = c.rows_seen.ensures.few in
+    let inside = c.if-at-rows_seen.false in
+    let h = headed _ cut.0 cut.1 c.args.at c.rows_seen.ensures.packed cut.2 (omega arith) in
+    let len = ap (λ x. x.len)
+    (heads_it h c.unpack_head.result c.in-Some.head c.row.ensures.word c.unpack_head.ensures.inverts c.in-Some.is) in
+    let fits = h.fits in
+    omega arith
+
+pub ops_at-requires-clause-ops : goal.ops_at-requires-clause-ops
+ops_at-requires-clause-ops g c =
+    let cut = c.requires.cut in
+    let rows = c.rows_seen.ensures.rows in
+    let inside = c.if-at-rows_seen.false in
+    let h = headed _ cut.0 cut.1 c.args.at c.rows_seen.ensures.packed cut.2 (omega arith) in
+    let len = ap (λ x. x.len)
+    (heads_it h c.unpack_head.result c.in-Some.head c.row.ensures.word c.unpack_head.ensures.inverts c.in-Some.is) in (
+      h.batch.ops,
+      subst (λ (s : SeatValue _). OpsAt (words_of s.view.journal) (c.args.at + 1) h.batch.ops)
+          (sym c.row.ensures.same) h.ops,
+      len,
+    )
+
+pub returns-in_err-ops-clause-cost : goal.returns-in_err-ops-clause-cost
+returns-in_err-ops-clause-cost g c = λ front rest d.
+    let rows = c.rows_seen.ensures.rows in
+    let inside = c.if-at-rows_seen.false in
+    let h = headed _ front rest c.args.at c.rows_seen.ensures.packed d (omega arith) in
+    let len = ap (λ x. x.len)
+    (heads_it h c.unpack_head.result c.in-Some.head c.row.ensures.word c.unpack_head.ensures.inverts c.in-Some.is) in
+    let all = first_rows_of h in
+    let one = c.row.ensures.cost in
+    let more = c.ops_at.ensures.cost in
+    omega arith
+
+pub returns-clause-batch : goal.returns-clause-batch
+returns-clause-batch g c = λ front rest d.
+    let rows = c.rows_seen.ensures.rows in
+    let inside = c.if-at-rows_seen.false in
+    let h = headed _ front rest c.args.at c.rows_seen.ensures.packed d (omega arith) in
+    let head = heads_it h c.unpack_head.result c.in-Some.head c.row.ensures.word c.unpack_head.ensures.inverts c.in-Some.is in
+    let ops = c.in_ok-ops.ensures.ops h.batch.ops
+    (subst (λ (s : SeatValue _). OpsAt (words_of s.view.journal) (c.args.at + 1) h.batch.ops)
+    (sym c.row.ensures.same) h.ops) (ap (λ x. x.len) head) in
+    (λ i. Some record { task = (head i).task; seq = (head i).seq; ops = ops i }) ∙ ap first_of (sym h.is)
+
+pub returns-clause-room : goal.returns-clause-room
+returns-clause-room g c =
+    let cut = c.requires.cut in
+    let rows = c.rows_seen.ensures.rows in
+    let few = c.rows_seen.ensures.few in
+    let inside = c.if-at-rows_seen.false in
+    let h = headed _ cut.0 cut.1 c.args.at c.rows_seen.ensures.packed cut.2 (omega arith) in
+    let head = heads_it h c.unpack_head.result c.in-Some.head c.row.ensures.word c.unpack_head.ensures.inverts c.in-Some.is in
+    let ops = ap length
+    (c.in_ok-ops.ensures.ops h.batch.ops
+    (subst (λ (s : SeatValue _). OpsAt (words_of s.view.journal) (c.args.at + 1) h.batch.ops)
+    (sym c.row.ensures.same) h.ops) (ap (λ x. x.len) head)) in
+    let fits = h.fits in
+    omega arith
+
+pub returns-clause-cost : goal.returns-clause-cost
+returns-clause-cost g c = λ front rest d.
+    let rows = c.rows_seen.ensures.rows in
+    let inside = c.if-at-rows_seen.false in
+    let h = headed _ front rest c.args.at c.rows_seen.ensures.packed d (omega arith) in
+    let len = ap (λ x. x.len)
+    (heads_it h c.unpack_head.result c.in-Some.head c.row.ensures.word c.unpack_head.ensures.inverts c.in-Some.is) in
+    let all = first_rows_of h in
+    let one = c.row.ensures.cost in
+    let more = c.ops_at.ensures.cost in
+    omega arith

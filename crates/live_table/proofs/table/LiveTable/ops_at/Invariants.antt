@@ -1,0 +1,10 @@
+use Rattle.std.proofs.Common.{◌≡◌, ◌≤◌, ◌+◌, List, length}
+use Rattle.smack_base.specs.declared.rule_op.RuleOp.{RuleOp}
+use Rattle.live_table.specs.Batches.{words_of, OpsAt}
+use Rattle.live_table.proofs.Cuts.{ReadTo}
+use Rattle.live_table.proofs.table.LiveTable.ops_at.Given as goal
+
+abbrev pub invariant-loop-i : goal.invariant-loop-i
+invariant-loop-i g l = (l.seat ≡ l.initial.seat) × (l.steps ≤ l.initial.steps + l.i)
+    × ((ops : List RuleOp) → OpsAt (words_of l.initial.seat.view.journal) l.fn.at ops → l.fn.len ≡ length ops
+    → ReadTo (words_of l.initial.seat.view.journal) l.fn.at l.fn.len l.i l.ops ops)

@@ -1,0 +1,77 @@
+ghost use Rattle.std.specs.Prelude.{◌≡◌, ◌≤◌, ◌<◌, ◌+◌, List, length, IfOk, IfSome, OnErr};
+ghost use Rattle.smack_base.specs.declared.rule_op.RuleOp.{RuleOp};
+ghost use Rattle.rules_spec.specs.declared.Batch.{Batch};
+ghost use Rattle.live_table.specs.Batches.{words_of, rows_of, Cut, OpsAt, first_of, first_rows};
+ghost use Rattle.live_table.specs.Core.{row_count};
+
+use crate::machine::Machine;
+use crate::seat::TaskSeat;
+use crate::table::LiveTable;
+use rule_word::{unpack, unpack_head};
+use rules_spec::Batch;
+use smack_base::RuleOps;
+use std::alloc::{AllocError, Global};
+use std::sync::ledger::Ledger;
+use step_count::Steps;
+
+impl<M: Machine> LiveTable<M> {
+    /// So many writes, from this row on; one step for each.
+    fn ops_at<L: Ledger>(
+        &self,
+        alloc: Global,
+        seat: &mut TaskSeat<M>,
+        at: u32,
+        len: u16,
+        steps: &mut Steps<L>,
+    ) -> Result<RuleOps, AllocError>
+        requires table { seat.old.table ≡ self.now }
+        requires room { at + len ≤ row_count }
+        requires ops { (ops : List RuleOp) × OpsAt (words_of seat.old.view.journal) at ops × (len ≡ length ops) }
+        ensures same { seat.new ≡ seat.old }
+        ensures ops { (ops : List RuleOp) → OpsAt (words_of seat.old.view.journal) at ops → len ≡ length ops → IfOk result (λ r. r ≡ ops) }
+        ensures cost { steps.new ≤ steps.old + len }
+    {
+        let mut ops = RuleOps::new(alloc);
+        for i in 0..u32::from(len) {
+            let op = match unpack(self.row(seat, at + i, steps)) {
+                Some(op) => op,
+                None => unreachable!(),
+            };
+            ops.push(op)?;
+        }
+        Ok(ops)
+    }
+
+    /// The batch whose head stands in this row, with one step for each of its rows; `None` where the
+    /// row is the end of those that the seat has seen. Want of memory comes only where there is a
+    /// batch.
+    pub fn batch<L: Ledger>(
+        &self,
+        alloc: Global,
+        seat: &mut TaskSeat<M>,
+        at: u32,
+        steps: &mut Steps<L>,
+    ) -> Result<Option<Batch>, AllocError>
+        requires table { seat.old.table ≡ self.now }
+        requires cut { (front : List Batch) × (rest : List Batch) × Cut seat.old.view.journal front rest at }
+        ensures same { seat.new ≡ seat.old }
+        ensures batch { (front rest : List Batch) → Cut seat.old.view.journal front rest at → IfOk result (λ b. b ≡ first_of rest) }
+        ensures some { OnErr result (at < rows_of seat.old.view.journal) }
+        ensures room { IfOk result (λ b. IfSome b (λ batch. at + 1 + length batch.ops ≤ row_count)) }
+        ensures cost { (front rest : List Batch) → Cut seat.old.view.journal front rest at → steps.new ≤ steps.old + first_rows rest }
+    {
+        if at >= seat.rows_seen() {
+            return Ok(None);
+        }
+        let head = match unpack_head(self.row(seat, at, steps)) {
+            Some(head) => head,
+            None => unreachable!(),
+        };
+        let ops = self.ops_at(alloc, seat, at + 1, head.len, steps)?;
+        Ok(Some(Batch {
+            task: head.task,
+            seq: head.seq,
+            ops,
+        }))
+    }
+}

@@ -1,0 +1,30 @@
+use rules_spec::Batch;
+use std::collections::LinkedList;
+
+/// What a seat knows. No value of it is made: contracts alone speak of it.
+pub struct View<E> {
+    /// The seat's own number first, then those of the seats that it adopted. A notice has none.
+    pub numbers: LinkedList<u64>,
+    /// The journal that the seat has seen.
+    pub journal: LinkedList<Batch>,
+    /// The history that the seat has met.
+    pub history: LinkedList<E>,
+    /// The numbers that were joined in, until the next look at the rows.
+    pub told_numbers: LinkedList<u64>,
+    /// The journal that was joined in, until then.
+    pub told_journal: LinkedList<Batch>,
+    /// The history that was joined in, until then.
+    pub told_history: LinkedList<E>,
+    /// Whether the seat has the pen.
+    pub pen: bool,
+    /// The rows that it has filled and not published.
+    pub filled: LinkedList<u64>,
+    /// Whether the seat has the turn.
+    pub turn: bool,
+    /// Whether it made a notice in this turn.
+    pub noticed: bool,
+    /// Whether it is the first notice of a turn, which may draw a number.
+    pub marked: bool,
+    /// So many numbers are drawn, or more.
+    pub known: u64,
+}

@@ -1,0 +1,61 @@
+use Rattle.std.specs.Prelude.{ℕ, ◌/◌, ◌%◌, ◌^◌, ◌==◌, if◌then◌else◌, Option, Some, None}
+use Rattle.smack_base.specs.declared.modes.Modes.{Modes}
+use Rattle.smack_base.specs.declared.ids.LabelId.{LabelId}
+use Rattle.smack_base.specs.declared.rule_op.RuleOp.{RuleOp}
+use Rattle.smack_base.specs.declared.rule_op.RuleOp.TheVariants.{Set, Change, Revoke, OnlyClear, OnlyAdd, Ambient, Ptrace, Logging}
+
+-- the fields of a word
+abbrev pub tag_in : ℕ → ℕ
+tag_in word = word / 2 ^ 60
+
+abbrev pub first_in : ℕ → ℕ
+first_in word = word / 2 ^ 44 % 65536
+
+abbrev pub second_in : ℕ → ℕ
+second_in word = word / 2 ^ 28 % 65536
+
+abbrev pub allow_in : ℕ → ℕ
+allow_in word = word / 2 ^ 20 % 256
+
+abbrev pub deny_in : ℕ → ℕ
+deny_in word = word / 2 ^ 12 % 256
+
+-- the modes of a number, whatever stands above its six lowest bits
+abbrev pub modes_in : ℕ → Modes
+modes_in n = record {
+  read = n % 2 == 1;
+  write = n / 2 % 2 == 1;
+  execute = n / 4 % 2 == 1;
+  append = n / 8 % 2 == 1;
+  transmute = n / 16 % 2 == 1;
+  bring_up = n / 32 % 2 == 1;
+}
+
+abbrev pub label_in : ℕ → LabelId
+label_in n = record { 0 = n }
+
+-- the write that fields say, where their tag is that of one
+abbrev pub op_of_fields : ℕ → ℕ → ℕ → ℕ → ℕ → Option RuleOp
+op_of_fields tag first second allow deny =
+    if tag == 1 then Some (Set (label_in first) (label_in second) (modes_in allow))
+    else (if tag == 2 then Some (Change (label_in first) (label_in second) (modes_in allow) (modes_in deny))
+    else (if tag == 3 then Some (Revoke (label_in first))
+    else (if tag == 4 then Some OnlyClear
+    else (if tag == 5 then Some (OnlyAdd (label_in first))
+    else (if tag == 6 then Some (Ambient (label_in first))
+    else (if tag == 7 then Some (Ptrace allow)
+    else (if tag == 8 then Some (Logging allow) else None)))))))
+
+-- what the fields of a word say, whether or not it is the word of a write
+abbrev pub op_in : ℕ → Option RuleOp
+op_in word = op_of_fields (tag_in word) (first_in word) (second_in word) (allow_in word) (deny_in word)
+
+-- the fields of a head
+abbrev pub task_in : ℕ → ℕ
+task_in word = word / 2 ^ 48 % 4096
+
+abbrev pub seq_in : ℕ → ℕ
+seq_in word = word / 2 ^ 28 % 1048576
+
+abbrev pub len_in : ℕ → ℕ
+len_in word = word / 2 ^ 12 % 65536

@@ -1,0 +1,54 @@
+use Rattle.std.specs.Prelude.{ℕ, ◌+◌, ◌*◌, ◌^◌, ◌<◌, ◌≤◌, Bool, if◌then◌else◌}
+use Rattle.smack_base.specs.declared.modes.Modes.{Modes}
+use Rattle.smack_base.specs.declared.ids.LabelId.{LabelId}
+use Rattle.smack_base.specs.declared.rule_op.RuleOp.{RuleOp}
+use Rattle.smack_base.specs.declared.rule_op.RuleOp.TheVariants.{Set, Change, Revoke, OnlyClear, OnlyAdd, Ambient, Ptrace, Logging}
+
+-- a flag that counts n where it is set
+abbrev pub worth : Bool → ℕ → ℕ
+worth flag n = if flag then n else 0
+
+-- a set of modes as a number below 64
+abbrev pub modes_number : Modes → ℕ
+modes_number m =
+    worth m.read 1 + worth m.write 2 + worth m.execute 4 + worth m.append 8 + worth m.transmute 16 + worth m.bring_up 32
+
+-- the word of a write, by its fields from the highest bit: tag 4 bits, first 16, second 16, allow 8, deny 8; the last
+-- 12 bits are 0
+abbrev pub word : ℕ → ℕ → ℕ → ℕ → ℕ → ℕ
+word tag first second allow deny =
+    tag * 2 ^ 60 + first * 2 ^ 44 + second * 2 ^ 28 + allow * 2 ^ 20 + deny * 2 ^ 12
+
+-- each kind of write has a tag; a field that it does not use is 0
+abbrev pub op_word : RuleOp → ℕ
+op_word (Set s o m) = word 1 s.0 o.0 (modes_number m) 0
+op_word (Change s o allow deny) = word 2 s.0 o.0 (modes_number allow) (modes_number deny)
+op_word (Revoke s) = word 3 s.0 0 0 0
+op_word OnlyClear = word 4 0 0 0 0
+op_word (OnlyAdd l) = word 5 l.0 0 0 0
+op_word (Ambient l) = word 6 l.0 0 0 0
+op_word (Ptrace n) = word 7 0 0 n 0
+op_word (Logging n) = word 8 0 0 n 0
+
+-- a label id is at most 65,534
+abbrev pub IsId : LabelId → Type 0
+IsId l = l.0 ≤ 65534
+
+-- the writes that have a word: those of ids, of ptrace policies 0 to 2 and of logging modes 0 to 3
+abbrev pub IsPackable : RuleOp → Type 0
+IsPackable (Set s o m) = IsId s × IsId o
+IsPackable (Change s o allow deny) = IsId s × IsId o
+IsPackable (Revoke s) = IsId s
+IsPackable OnlyClear = Unit {0}
+IsPackable (OnlyAdd l) = IsId l
+IsPackable (Ambient l) = IsId l
+IsPackable (Ptrace n) = n ≤ 2
+IsPackable (Logging n) = n ≤ 3
+
+-- the word of a head, by its fields from the highest bit: 15 in 4 bits, task 12, seq 20, len 16; the last 12 bits are 0
+abbrev pub head_word : ℕ → ℕ → ℕ → ℕ
+head_word task seq len = 15 * 2 ^ 60 + task * 2 ^ 48 + seq * 2 ^ 28 + len * 2 ^ 12
+
+-- the numbers that have room in a head
+abbrev pub IsHead : ℕ → ℕ → ℕ → Type 0
+IsHead task seq len = (task < 4096) × (seq < 1048576) × (len < 65536)

@@ -1,0 +1,6 @@
+pub mod Indexes
+pub mod Growing
+pub mod Filling
+pub mod Tasks
+pub mod Counts
+pub mod Texts

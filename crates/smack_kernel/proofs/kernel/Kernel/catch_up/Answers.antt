@@ -1,0 +1,10 @@
+use Rattle.std.proofs.Common.{refl}
+use Rattle.smack_kernel.proofs.Tasks.{sees_does}
+use Rattle.smack_kernel.proofs.kernel.Kernel.catch_up.Goals as goal
+
+pub returns-clause-stays : goal.returns-clause-stays
+returns-clause-stays g c =
+    rw (← c.task.view_is) (record {
+      does = sees_does c.task.inside.made c.task.inside.creds c.task.invariant c.look.ensures.same c.look.ensures.sees c.look.ensures.stands c.look.ensures.later;
+      made = refl;
+    })

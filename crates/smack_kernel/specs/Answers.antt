@@ -1,0 +1,112 @@
+use Rattle.std.specs.Prelude.{◌≡◌, ℕ, ◌+◌, ◌<◌, ◌≤◌, ◌∷◌, [], List, length, Some, Ok, Err, true, false}
+use Rattle.smack_base.specs.declared.rule_op.RuleOp.{RuleOp}
+use Rattle.smack_base.specs.declared.ids.LabelId.{LabelId}
+use Rattle.smack_base.specs.declared.modes.Modes.{Modes}
+use Rattle.smack_base.specs.declared.cap.Cap.TheVariants.{MacAdmin}
+use Rattle.rules_spec.specs.declared.Batch.{Batch}
+use Rattle.rules_spec.specs.Rulings.{ruling}
+use Rattle.rules_spec.specs.Cases.{verdict_of_cases}
+use Rattle.rules_spec.specs.Creds.{is_effective}
+use Rattle.file_spec.specs.declared.Refusal.{Refusal}
+use Rattle.file_spec.specs.declared.Refusal.TheVariants as refusal
+use Rattle.file_spec.specs.declared.Compiled.TheVariants.{Rules}
+use Rattle.file_spec.specs.Files.{compiled}
+use Rattle.world_spec.specs.declared.Entry.{Entry}
+use Rattle.world_spec.specs.Worlds.{world_first}
+use Rattle.rule_word.specs.Layout.{IsPackable}
+use Rattle.live_table.specs.Lists.{Has}
+use Rattle.live_table.specs.Batches.{rows_of}
+use Rattle.live_table.specs.Core.{row_count}
+use Rattle.live_table.specs.Machines.{LegalFrom, last_version}
+use Rattle.world_spec.specs.Replays.{AreSteps}
+use Rattle.smack_kernel.specs.Histories.{world_means}
+use Rattle.smack_kernel.specs.Growth.{Publishes, batch_of}
+use Rattle.smack_kernel.specs.Tasks.{TaskValue, Does, Answers, most_calls}
+use Rattle.smack_kernel.specs.declared.kernel.Asked.{Asked}
+use Rattle.smack_kernel.specs.declared.kernel.Asked.TheVariants as asked
+use Rattle.smack_kernel.specs.declared.kernel.Written.{Written}
+use Rattle.smack_kernel.specs.declared.kernel.Written.TheVariants as written
+
+-- the task has made as many calls as it may, and nothing changes
+abbrev pub IsSeqFull : TaskValue → TaskValue → Type 0
+IsSeqFull v w = (v.made ≡ most_calls) × (w ≡ v)
+
+-- a question is answered by the ordered cases, in the version that the task has then seen whole
+abbrev pub IsAsked : TaskValue → TaskValue → LabelId → LabelId → Modes → Asked → Type 0
+IsAsked v w s o m (asked.Verdict version verdict) =
+    (v.made < most_calls) × Answers v w version × (verdict ≡ verdict_of_cases (ruling w.journal) s o m)
+IsAsked v w s o m asked.SeqFull = IsSeqFull v w
+
+-- a batch of a text is published: it ends the seen journal, and the index stands for it
+pub record Wrote (v w : TaskValue) (ops : List RuleOp) (version : ℕ) : Type 0 where
+  pub does : Does v w (batch_of v.number (v.made + 1) ops ∷ [])
+  pub made : w.made ≡ v.made + 1
+  pub now : version ≡ w.version
+  pub whole : w.version ≡ length w.journal
+  pub publishes : Publishes v.number v.ended v.journal w.journal v.history w.history (v.made + 1) ops v.creds
+
+-- writes that a batch can hold
+abbrev pub ArePackedOps : List RuleOp → Type 0
+ArePackedOps ops = (length ops < 65536) × ((op : RuleOp) → Has op ops → IsPackable op)
+
+-- what came of the writes of a good text
+abbrev pub IsOpsWritten : TaskValue → TaskValue → List RuleOp → Written → Type 0
+IsOpsWritten v w ops (written.Batch version) = Wrote v w ops version
+IsOpsWritten v w ops (written.Refused version refusal.NotPrivileged) =
+    Answers v w version × (is_effective v.creds MacAdmin (ruling w.journal) ≡ false)
+IsOpsWritten v w ops (written.Refused version (refusal.JournalFull rows)) =
+    Answers v w version × (is_effective v.creds MacAdmin (ruling w.journal) ≡ true)
+    × (rows ≡ rows_of w.journal) × (row_count < rows + length ops + 1)
+IsOpsWritten v w ops (written.Refused version fault) = ⊥
+IsOpsWritten v w ops written.SeqFull = ⊥
+
+-- a text is refused: the call is counted, and nothing else changes
+abbrev pub IsTextRefused : TaskValue → TaskValue → ℕ → Type 0
+IsTextRefused v w version = (w ≡ record v { made = v.made + 1 }) × (version ≡ v.version)
+
+-- A text that does not become rules is refused for it. One that does is refused where CAP_MAC_ADMIN is not effective in
+-- the version that is seen with the pen, and else where the journal has no room.
+abbrev pub IsRefused : List (List ℕ) → TaskValue → TaskValue → List ℕ → List ℕ → ℕ → Refusal → Type 0
+IsRefused labels v w file text version refusal.NotPrivileged =
+    (ops : List RuleOp) × (compiled labels file text ≡ Ok (Rules ops)) × Answers v w version
+    × (is_effective v.creds MacAdmin (ruling w.journal) ≡ false)
+IsRefused labels v w file text version (refusal.JournalFull rows) =
+    (ops : List RuleOp) × (compiled labels file text ≡ Ok (Rules ops)) × Answers v w version
+    × (is_effective v.creds MacAdmin (ruling w.journal) ≡ true) × (rows ≡ rows_of w.journal)
+    × (row_count < rows + length ops + 1)
+IsRefused labels v w file text version fault = (compiled labels file text ≡ Err fault) × IsTextRefused v w version
+
+-- a text is written to a file of rules or settings
+abbrev pub IsWritten : List (List ℕ) → TaskValue → TaskValue → List ℕ → List ℕ → Written → Type 0
+IsWritten labels v w file text (written.Batch version) =
+    (v.made < most_calls) × ((ops : List RuleOp) × (compiled labels file text ≡ Ok (Rules ops)) × Wrote v w ops version)
+IsWritten labels v w file text (written.Refused version fault) =
+    (v.made < most_calls) × IsRefused labels v w file text version fault
+IsWritten labels v w file text written.SeqFull = IsSeqFull v w
+
+-- a mark is counted, and answers the version of the index
+abbrev pub IsMarked : TaskValue → TaskValue → ℕ → Type 0
+IsMarked v w version = (v.made < most_calls) × (w ≡ record v { made = v.made + 1 }) × (version ≡ v.version)
+
+-- a whole task may close the kernel: its numbers are 0 and each task that an entry of theirs makes
+pub record IsWhole (v : TaskValue) : Type 0 where
+  pub first : Has 0 (v.number ∷ v.ended)
+  pub closed : (e : Entry) → Has e v.history → Has e.task (v.number ∷ v.ended) → (k : ℕ)
+      → world_means.child e ≡ Some k → Has k (v.number ∷ v.ended)
+
+-- what a closed kernel hands out: its labels, and the journal and history that were made
+pub record ClosedValue : Type 0 where
+  pub labels : List (List ℕ)
+  pub journal : List Batch
+  pub history : List Entry
+
+-- The closed journal and history are those that the task has seen. Each entry is what its call came to; versions do not
+-- fall and none exceeds the journal; each batch is of one of the task's numbers.
+pub record Closes (labels : List (List ℕ)) (v : TaskValue) (c : ClosedValue) : Type 0 where
+  pub labels_are : c.labels ≡ labels
+  pub journal : c.journal ≡ v.journal
+  pub history : c.history ≡ v.history
+  pub steps : AreSteps v.journal world_first v.history
+  pub legal : LegalFrom world_means 0 0 v.history
+  pub recent : last_version world_means v.history ≤ length v.journal
+  pub tasks : (b : Batch) → Has b v.journal → Has b.task (v.number ∷ v.ended)

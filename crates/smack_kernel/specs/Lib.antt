@@ -1,0 +1,6 @@
+pub mod Histories
+pub mod Replays
+pub mod Indexes
+pub mod Growth
+pub mod Tasks
+pub mod Answers

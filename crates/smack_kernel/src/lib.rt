@@ -1,0 +1,28 @@
+//! The kernel: tasks that share rules, each with its own copy of what it has seen.
+//!
+//! Contracts see a `Task` as its kernel, its number, how many calls it made, the version of its
+//! rules, its credentials, the numbers that it adopted, and the journal and the history that it has
+//! seen; its own batches and entries are those of its number there (`specs/Tasks.antt`). What a call
+//! does to it is one record for each act: `Stays`, `Answers`, `Wrote`, `Hears`.
+//!
+//! `ask` and `catch_up` wait for nobody: they look at the published rows once, and load those that
+//! the task's rules lack, whole batches in order, each row once. `write` judges a text first, then
+//! waits for the pen, and publishes its writes as one batch or not at all. `close` hands out the
+//! journal and the history that were made, each entry being what its call came to.
+//!
+//! Stands on `live_table` for the rows, on `smack_world` for the machine (`WorldMachine` alone knows
+//! it), and on `smackfs`, `rule_fold` and `smack_decide` for texts, rules and decisions.
+#![tactic(auto)]
+
+mod closed;
+mod index;
+mod kernel;
+mod publishing;
+mod task;
+mod world_machine;
+
+pub use closed::Closed;
+pub use file_spec::Refusal;
+pub use kernel::{Asked, Kernel, SeqFull, Written};
+pub use step_count::Steps;
+pub use task::{Notice, Task};
