@@ -1,14 +1,19 @@
 #!/usr/bin/env python3
 """Prints what `smack replay` takes for scripts of 1 and 4 MiB: the seconds for each MiB, and the
-greatest memory as a multiple of the script. Build the program first, as by ./smack."""
+greatest memory as a multiple of the script; and how long the file smack takes before it starts the
+program. Build the program first, as by ./smack."""
 
 import os
+import statistics
 import subprocess
 import sys
 import tempfile
+import time
 
 MIB = 1 << 20
-PROGRAM = os.path.join(os.path.dirname(os.path.abspath(__file__)), "..", "smack")
+TOP = os.path.join(os.path.dirname(os.path.abspath(__file__)), "..")
+PROGRAM = os.path.join(TOP, "smack")
+BUILT = os.path.join(TOP, "crates", "smack", "out", "smack")
 
 
 def asks(size):
@@ -57,8 +62,20 @@ def measure(script):
     return float(seconds), int(kib) * 1024
 
 
+def start_time(program):
+    """The seconds of a replay of an empty script: the median of 101 runs."""
+    seconds = []
+    for _ in range(101):
+        start = time.monotonic()
+        subprocess.run([program, "replay"], stdin=subprocess.DEVNULL, stdout=subprocess.DEVNULL, check=True)
+        seconds.append(time.monotonic() - start)
+    return statistics.median(seconds)
+
+
 def main():
     measure(b"")
+    late = (start_time(PROGRAM) - start_time(BUILT)) * 1000
+    print(f"the file smack starts the program after {late:.1f} ms")
     for name, make in (("asks", asks), ("writes", writes)):
         for size in (MIB, 4 * MIB):
             script = make(size)

@@ -1,0 +1,57 @@
+"""A script that was run by the program, with its record and the account of it."""
+
+import sys
+from dataclasses import dataclass
+from pathlib import Path
+from typing import Optional
+
+from .account import Account, tell
+from .diagnosis import diagnose
+from .program import Outcome, Program
+from .record import Record, read_record
+from .screen import say
+from .script import Script, read_script
+
+CANNOT_READ = 4
+
+
+@dataclass(frozen=True)
+class Run:
+    """A script and how it ended. Record and account are None where the program refused the script."""
+
+    name: str
+    script: Script
+    outcome: Outcome
+    record: Optional[Record]
+    account: Optional[Account]
+
+    def why_refused(self) -> str:
+        """The program's line, and behind it what is wrong in words."""
+        more = diagnose(self.script, self.outcome.line)
+        return self.outcome.line + ("\n" + more if more else "")
+
+
+def read_file(name: str) -> bytes:
+    """The bytes of a file; `-` is standard input."""
+    return sys.stdin.buffer.read() if name == "-" else Path(name).read_bytes()
+
+
+def run_script(program: Program, name: str, data: bytes) -> Run:
+    """Replays a script and tells of it. Raises RecordError where the record cannot be read."""
+    script = read_script(data)
+    outcome = program.run("replay", data)
+    if outcome.status != 0:
+        return Run(name, script, outcome, None, None)
+    record = read_record(outcome.record)
+    return Run(name, script, outcome, record, tell(script, record))
+
+
+def run_file(program: Program, name: str) -> Run:
+    """Replays the script of a file. Raises OSError and RecordError."""
+    return run_script(program, name, read_file(name))
+
+
+def say_cannot_read(name: str, error: OSError) -> int:
+    """Says why a file cannot be read; the exit status for that."""
+    say(f"smack: cannot read {name}: {error.strerror}")
+    return CANNOT_READ
