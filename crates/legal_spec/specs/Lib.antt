@@ -1,1 +1,5 @@
 pub mod Lines
+pub mod Calls
+pub mod Legal
+pub mod Fits
+pub mod Laws

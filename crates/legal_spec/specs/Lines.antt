@@ -1,5 +1,4 @@
-use Rattle.std.specs.Prelude.{◌≡◌, ◌+◌, ◌<◌, ℕ, List, Option, Some, Ok, Err, length}
-use Rattle.smack_base.specs.declared.ids.Pid.{Pid}
+use Rattle.std.specs.Prelude.{◌≡◌, ◌+◌, ◌<◌, ℕ, List, Some, Ok, Err, length}
 use Rattle.smack_base.specs.declared.rule_op.RuleOp.{RuleOp}
 use Rattle.text_spec.specs.Names.{id_of}
 use Rattle.rules_spec.specs.declared.Verdict.{Verdict}

@@ -1,5 +1,8 @@
-//! When a record is one legal history, and when it is the record of a script. Definitions alone, in
+//! When a record is one legal history, and when it is legal for a script. Definitions alone, in
 //! `specs/`.
 //!
-//! `Lines` says what a line of a script may have become in a record.
+//! `Calls` says what a call of a record is, with the rule version that it needs and the one that it
+//! reaches, which tasks there are, and who descends from whom. `Legal` has the clauses of a legal
+//! record, each by name. `Lines` says what one line of a script may have become, `Fits` that a
+//! record has the labels, the tasks and the lines of a script, and `Laws` what follows for replays.
 #![tactic(auto)]
