@@ -13,7 +13,7 @@ use Rattle.script_spec.specs.declared.ScriptFault.{ScriptFault}
 use Rattle.script_spec.specs.declared.ScriptFault.TheVariants.{Malformed, TooLarge}
 use Rattle.script_spec.specs.Words.{verb_of, kinds_of, is_of_kind, bad_word, has_deep_path, is_task_name, is_unbuilt_verb, word_at}
 use Rattle.script_spec.specs.Lines.{ScriptLine, verb_in}
-use Rattle.script_spec.specs.Tasks.{Tasks, task_names, has_exit, calls_by, tasks_of, pid_of, is_live}
+use Rattle.script_spec.specs.Tasks.{Tasks, task_names, has_exit, calls_by, tasks_of, pid_of, is_gone, is_live}
 use Rattle.script_spec.specs.Causes.{cause_if, first_cause, names_unbuilt_file, is_name_good, is_wait_good, words_cause, unless_verb, verb_cause, behind_task, line_cause}
 use Rattle.script_spec.specs.Grammar.{Item, has_text, call_of, fault_if, first_of, limit_faults, item_fault, unless_fault, calls_of, lines_fault, items, script_of, most_bytes, most_lines, most_tasks, parse}
 use Rattle.replay_spec.proofs.KnownLabels.{not_refused}
@@ -37,6 +37,7 @@ pub record IsGoodLine (above : List ScriptLine) (l : ScriptLine) : Type 0 where
   pub wait : is_wait_good (tasks_of above) l.task verb behind ≡ true
   pub there : l.task < length (task_names above)
   pub live : has_exit above l.task ≡ false
+  pub kept : is_gone (tasks_of above) l.task ≡ false
   pub seq : l.seq ≡ calls_by above l.task + 1
   pub few : length (task_names (above ++ l ∷ [])) ≤ most_tasks
 
@@ -127,13 +128,15 @@ past_task : (good : Bool) (cause : Option Cause) → (if good then cause else So
 past_task true cause none = none
 past_task false cause none = cc
 
--- a task that is live is there and has not exited
+-- a task that is live is there and has not exited, and nobody waited for it or for one that it descends from
 live_parts : (above : List ScriptLine) (name : List ℕ) → is_live (tasks_of above) name ≡ true
     → (place_of (task_names above) name < length (task_names above)) × (has_exit above (place_of (task_names above) name) ≡ false)
+    × (is_gone (tasks_of above) (place_of (task_names above) name) ≡ false)
 live_parts above name live =
+    let pid = place_of (task_names above) name in
     let parts = and_parts _ _ live in
     let there = and_parts _ _ parts.0 in
-    (ltb-true (place_of (task_names above) name) (length (task_names above)) there.0, not_so (has_exit above (place_of (task_names above) name)) there.1)
+    (ltb-true pid (length (task_names above)) there.0, not_so (has_exit above pid) there.1, not_so (is_gone (tasks_of above) pid) parts.1)
 
 -- a call of these words behind its task
 good_words : (above : List ScriptLine) (l : ScriptLine) (ws : List Placed) (text : Bool) → line_cause (tasks_of above) ws text ≡ None
@@ -157,6 +160,7 @@ good_words above l (t ∷ v ∷ ws) text none words task seq few =
       wait = subst (λ (k : ℕ). is_wait_good (tasks_of above) k good.verb ws ≡ true) (sym task) good.wait;
       there = subst (λ (k : ℕ). k < length (task_names above)) (sym task) live.0;
       live = subst (λ (k : ℕ). has_exit above k ≡ false) (sym task) live.1;
+      kept = subst (λ (k : ℕ). is_gone (tasks_of above) k ≡ false) (sym task) live.2;
       seq = seq;
       few = few;
     }

@@ -58,7 +58,7 @@ module _ (p : ℕ → ℕ → Bool) where
       count_by (λ (b : Batch). p b.task b.seq) run.journal + count_by (λ (e : Entry). p e.task e.seq) run.history
       + count_by (λ (a : AskedLine). p a.task a.seq) run.asked
 
-  asked_more : (asked : List AskedLine) (a : AskedLine)
+  pub asked_more : (asked : List AskedLine) (a : AskedLine)
       → count_by (λ (a : AskedLine). p a.task a.seq) (with_asked asked a) ≡ count_by (λ (a : AskedLine). p a.task a.seq) asked + cond (p a.task a.seq) 1 0
   asked_more [] a = omega arith
   asked_more (b ∷ bs) a = by (is_before a b) (asked_more bs a)
@@ -173,7 +173,7 @@ task_forked above l more =
     (all_before (task_names above ++ forked_name (change_of l)) with_more.0 (forked_name (change_of l)) (forked_has (task_names above) (change_of l)))
 
 -- the words of a good call are found in the tables of its script
-line_is_made : (above : List ScriptLine) (l : ScriptLine) (more : List ScriptLine) (good : IsGoodLine above l)
+pub line_is_made : (above : List ScriptLine) (l : ScriptLine) (more : List ScriptLine) (good : IsGoodLine above l)
     → IsMade (table_of (above ++ l ∷ more)) (task_names (above ++ l ∷ more)) l good.verb
 line_is_made above l more good =
     let labels = table_of (above ++ l ∷ more) in
@@ -217,10 +217,10 @@ lines_more p lines above (l ∷ ls) same good table run in_step =
     rest ∙ omega (arith, one, sum_by-append (λ (l : ScriptLine). cond (p l.task l.seq) 1 0) (l ∷ []) ls)
 
 -- before any call there is the first task
-first_in_step : IsInStep [] run_first.world.tasks
+pub first_in_step : IsInStep [] run_first.world.tasks
 first_in_step = record { numbered = (refl, refl, tt); many = refl; later = λ j past. refl }
 
-all_recorded : (p : ℕ → ℕ → Bool) (bytes : List ℕ) (lines : List ScriptLine) → parse bytes ≡ Ok lines
+pub all_recorded : (p : ℕ → ℕ → Bool) (bytes : List ℕ) (lines : List ScriptLine) → parse bytes ≡ Ok lines
     → recorded p (run_of (table_of lines) (task_names lines) lines) ≡ count_by (λ (l : ScriptLine). p l.task l.seq) lines
 all_recorded p bytes lines is =
     omega (arith, lines_more p lines [] lines refl (good_lines bytes lines is) (names_are_a_table bytes lines is) run_first first_in_step)

@@ -212,7 +212,7 @@ fork_in_step above l tasks after name creds there step none one is =
     })
 
 -- the task that a fork names has the next pid
-next_pid : (names above : List (List ℕ)) (name : List ℕ) (rest : List (List ℕ)) → names ≡ above ++ name ∷ rest → IsNameTable names
+pub next_pid : (names above : List (List ℕ)) (name : List ℕ) (rest : List (List ℕ)) → names ≡ above ++ name ∷ rest → IsNameTable names
     → pid_in names name ≡ Some (record { 0 = length above })
 next_pid names above name rest is table =
     let within : length above < length names = omega (arith, ap (λ (t : List (List ℕ)). length t) is, length-append above (name ∷ rest)) in

@@ -45,7 +45,7 @@ found_path (Ok x) good = refl
 found_path (Err f) good = cc
 
 -- there are as many parents as tasks, the first not counted
-forks_counted : (lines : List ScriptLine)
+pub forks_counted : (lines : List ScriptLine)
     → length (filter (λ l. is_fork (change_of l)) lines) ≡ length (flat_map (λ l. forked_name (change_of l)) lines)
 forks_counted [] = refl
 forks_counted (l ∷ ls) = by (change_of l) (forks_counted ls)
@@ -78,7 +78,7 @@ child_below awaited (parent ∷ older) task pid is =
     by true rest is = omega (arith, eqb-true (length (parent ∷ older)) pid is)
     by false rest is = omega (arith, rest is)
 
-child_has_name : (above : List ScriptLine) (task : ℕ) (name : List ℕ) → is_latest_child (tasks_of above) task name ≡ true
+pub child_has_name : (above : List ScriptLine) (task : ℕ) (name : List ℕ) → is_latest_child (tasks_of above) task name ≡ true
     → has_name (task_names above) name ≡ true
 child_has_name above task name is =
     let below = child_below (tasks_of above).awaited (parents_in above) task (pid_of (tasks_of above) name) is in

@@ -1,0 +1,4 @@
+pub mod Places
+pub mod TextRefusals
+pub mod Runs
+pub mod Growth

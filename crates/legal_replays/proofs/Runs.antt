@@ -1,0 +1,236 @@
+use Rattle.std.proofs.Common.{◌≡◌, ℕ, Bool, true, false, if◌then◌else◌, List, [], ◌∷◌, ◌++◌, length, refl, sym, ap, subst, ◌∙◌, append_assoc, append-nil, fold, Option, Some, None, Result, Ok, Err}
+use Rattle.std.specs.Prelude.{is_some}
+use Rattle.smack_base.specs.declared.modes.Modes.{Modes}
+use Rattle.smack_base.specs.declared.ids.LabelId.{LabelId}
+use Rattle.smack_base.specs.declared.ids.Pid.{Pid}
+use Rattle.smack_base.specs.declared.cap.Cap.TheVariants.{MacAdmin}
+use Rattle.smack_base.specs.declared.rule_op.RuleOp.{RuleOp}
+use Rattle.smack_base.specs.Modes.{is_modes}
+use Rattle.rules_spec.specs.declared.Batch.{Batch}
+use Rattle.rules_spec.specs.Rulings.{ruling}
+use Rattle.rules_spec.specs.Cases.{verdict_of_cases}
+use Rattle.rules_spec.specs.Creds.{is_effective}
+use Rattle.text_spec.specs.Names.{has_name, id_of}
+use Rattle.file_spec.specs.declared.Refusal.{Refusal}
+use Rattle.file_spec.specs.declared.Refusal.TheVariants.{NoSuchFile, TooLong, BadLine, UnknownLabel, NotPrivileged, JournalFull}
+use Rattle.file_spec.specs.declared.Compiled.{Compiled}
+use Rattle.file_spec.specs.declared.Compiled.TheVariants.{Rules, SelfRules, Relabels}
+use Rattle.file_spec.specs.Writes.{rule_file}
+use Rattle.file_spec.specs.Files.{compiled}
+use Rattle.script_spec.specs.declared.Verb.{Verb}
+use Rattle.script_spec.specs.declared.Verb.TheVariants.{Write, Ask as AskVerb, Wait as WaitVerb, Task as TaskVerb, Tree as TreeVerb}
+use Rattle.script_spec.specs.Lines.{ScriptLine, word_in, verb_in, table_of}
+use Rattle.script_spec.specs.Tasks.{task_names}
+use Rattle.script_spec.specs.Grammar.{parse}
+use Rattle.world_spec.specs.declared.TaskCall.TheVariants.{SelfRules as RulesOfTask, Relabels as LabelsOfTask}
+use Rattle.world_spec.specs.declared.Call.{Call}
+use Rattle.world_spec.specs.declared.Call.TheVariants.{Task, Tree}
+use Rattle.world_spec.specs.declared.Entry.{Entry}
+use Rattle.world_spec.specs.Worlds.{creds_of}
+use Rattle.world_spec.specs.Steps.{Stepped, step}
+use Rattle.record_spec.specs.declared.AskedLine.{AskedLine}
+use Rattle.record_spec.specs.declared.AskedWhat.{AskedWhat}
+use Rattle.record_spec.specs.declared.AskedWhat.TheVariants.{Ask, Refused, Wait}
+use Rattle.replay_spec.specs.Calls.{pid_in, of_one, task_call, tree_call, file_call, call_by, call_of_line}
+use Rattle.replay_spec.specs.Plain.{IsNameTable}
+use Rattle.replay_spec.specs.Replays.{Run, run_first, number_of_task, with_asked, noted, published, stepped_by, written, modes_in, answered, awaited, entered, after_verb, after_line, run_of}
+use Rattle.legal_spec.specs.Lines.{IsBatchOfLine, IsCallOfLine, IsRefusalOfLine, IsAskedOfLine}
+use Rattle.plain_records.proofs.GoodLines.{IsGoodLine, good_verb, AreGoodLines, good_lines}
+use Rattle.plain_records.proofs.Tasks.{names_behind, names_are_a_table}
+use Rattle.replayed_records.proofs.InStep.{IsInStep, number_is_pid, line_in_step}
+use Rattle.replayed_records.proofs.KnownWords.{IsMade}
+use Rattle.replayed_records.proofs.EachLine.{line_is_made, first_in_step}
+use Rattle.legal_replays.proofs.TextRefusals.{IsTextRefusal, text_refusal, rules_of_file}
+
+abbrev pub batch_by : ScriptLine → List RuleOp → Batch
+batch_by l ops = record { task = l.task; seq = l.seq; ops = ops }
+
+abbrev pub step_by : Run → ScriptLine → Call → Stepped
+step_by run l call = step run.world (ruling run.journal) l.task call
+
+abbrev pub entry_by : Run → ScriptLine → Call → Entry
+entry_by run l call = record {
+  task = l.task;
+  seq = l.seq;
+  call = call;
+  version = length run.journal;
+  checks = (step_by run l call).checks;
+  reply = (step_by run l call).reply;
+}
+
+abbrev pub asked_by : Run → ScriptLine → AskedWhat → AskedLine
+asked_by run l what = record { task = l.task; seq = l.seq; version = length run.journal; what = what }
+
+abbrev pub with_batch : Run → ScriptLine → List RuleOp → Run
+with_batch run l ops = record run { journal = run.journal ++ batch_by l ops ∷ [] }
+
+abbrev pub with_entry : Run → ScriptLine → Call → Run
+with_entry run l call = record run { world = (step_by run l call).world; history = run.history ++ entry_by run l call ∷ [] }
+
+abbrev pub with_line : Run → ScriptLine → AskedWhat → Run
+with_line run l what = record run { asked = with_asked run.asked (asked_by run l what) }
+
+-- what an asked, refused or waited line says is so in the newest version
+abbrev pub IsRefusedNow : Run → ScriptLine → List ℕ → Refusal → Type 0
+IsRefusedNow run l file NoSuchFile = Unit {0}
+IsRefusedNow run l file TooLong = Unit {0}
+IsRefusedNow run l file (BadLine bad) = Unit {0}
+IsRefusedNow run l file (UnknownLabel line) = Unit {0}
+IsRefusedNow run l file NotPrivileged =
+    (is_some (rule_file file) ≡ true) × (is_effective (creds_of run.world l.task) MacAdmin (ruling run.journal) ≡ false)
+IsRefusedNow run l file (JournalFull rows) = ⊥
+
+abbrev pub IsSoNow : Run → ScriptLine → AskedWhat → Type 0
+IsSoNow run l (Ask v) = v ≡ verdict_of_cases (ruling run.journal) v.subject v.object v.modes
+IsSoNow run l (Refused file fault) = IsRefusedNow run l file fault
+IsSoNow run l (Wait pid) = Unit {0}
+
+-- what a run may be after one more line
+pub data IsNext (labels names : List (List ℕ)) (run : Run) (l : ScriptLine) : Run → Type 0 where
+  batch : (ops : List RuleOp) → IsBatchOfLine labels l ops → is_effective (creds_of run.world l.task) MacAdmin (ruling run.journal) ≡ true
+      → IsNext labels names run l (with_batch run l ops)
+  entry : (call : Call) → IsCallOfLine labels names l call → IsNext labels names run l (with_entry run l call)
+  asked : (what : AskedWhat) → IsAskedOfLine labels names l what → IsSoNow run l what → IsNext labels names run l (with_line run l what)
+
+module _ (labels names : List (List ℕ)) (run : Run) (l : ScriptLine) (is : number_of_task run l ≡ l.task) where
+  abbrev Next : Run → Type 0
+  Next after = IsNext labels names run l after
+
+  published_next : (ops : List RuleOp) → IsBatchOfLine labels l ops
+      → is_effective (creds_of run.world (number_of_task run l)) MacAdmin (ruling run.journal) ≡ true → Next (published run l ops)
+  published_next ops of may =
+      subst (λ (k : ℕ). Next (record run { journal = run.journal ++ (record { task = k; seq = l.seq; ops = ops }) ∷ [] })) (sym is)
+      (batch ops of (subst (λ (k : ℕ). is_effective (creds_of run.world k) MacAdmin (ruling run.journal) ≡ true) is may))
+
+  stepped_next : (call : Call) → IsCallOfLine labels names l call → Next (stepped_by run l call)
+  stepped_next call of =
+      subst (λ (k : ℕ). Next (record run {
+        world = (step run.world (ruling run.journal) k call).world;
+        history = run.history ++ (record {
+          task = k;
+          seq = l.seq;
+          call = call;
+          version = length run.journal;
+          checks = (step run.world (ruling run.journal) k call).checks;
+          reply = (step run.world (ruling run.journal) k call).reply;
+        }) ∷ [];
+      })) (sym is) (entry call of)
+
+  noted_next : (what : AskedWhat) → IsAskedOfLine labels names l what → IsSoNow run l what → Next (noted run l what)
+  noted_next what of so =
+      subst (λ (k : ℕ). Next (record run {
+        asked = with_asked run.asked (record { task = k; seq = l.seq; version = length run.journal; what = what });
+      })) (sym is) (asked what of so)
+
+  text_refused : (fault : Refusal) → IsTextRefusal fault → compiled labels (word_in 1 l) l.text.bytes ≡ Err fault
+      → IsRefusalOfLine labels l fault × IsRefusedNow run l (word_in 1 l) fault
+  text_refused NoSuchFile of_text is = (is, tt)
+  text_refused TooLong of_text is = (is, tt)
+  text_refused (BadLine bad) of_text is = (is, tt)
+  text_refused (UnknownLabel line) of_text is = (is, tt)
+  text_refused NotPrivileged of_text is = absurd of_text
+  text_refused (JournalFull rows) of_text is = absurd of_text
+
+  written_next : (made : Result Compiled Refusal) → verb_in l ≡ Some Write → compiled labels (word_in 1 l) l.text.bytes ≡ made
+      → Next (written run l made)
+  written_next (Ok (Rules ops)) verb made =
+      by (is_effective (creds_of run.world (number_of_task run l)) MacAdmin (ruling run.journal)) refl
+    where
+      by : (may : Bool) → is_effective (creds_of run.world (number_of_task run l)) MacAdmin (ruling run.journal) ≡ may
+          → Next (if may then published run l ops else noted run l (Refused (word_in 1 l) NotPrivileged))
+      by true may = published_next ops (verb, made) may
+      by false may =
+          noted_next (Refused (word_in 1 l) NotPrivileged) (verb, refl, (ops, made))
+          (rules_of_file labels (word_in 1 l) l.text.bytes ops made,
+          subst (λ (k : ℕ). is_effective (creds_of run.world k) MacAdmin (ruling run.journal) ≡ false) is may)
+  written_next (Ok (SelfRules rules)) verb made =
+      stepped_next (Task (RulesOfTask rules)) (ap (call_by labels names l) verb ∙ ap (λ m. of_one (file_call m) (λ call. Task call)) made)
+  written_next (Ok (Relabels list)) verb made =
+      stepped_next (Task (LabelsOfTask list)) (ap (call_by labels names l) verb ∙ ap (λ m. of_one (file_call m) (λ call. Task call)) made)
+  written_next (Err fault) verb made =
+      let refused = text_refused fault (text_refusal labels (word_in 1 l) l.text.bytes fault made) made in
+      noted_next (Refused (word_in 1 l) fault) (verb, refl, refused.0) refused.1
+
+  answered_next : (s o : Option LabelId) (m : Option Modes) → verb_in l ≡ Some AskVerb → id_of labels (word_in 1 l) ≡ s
+      → id_of labels (word_in 2 l) ≡ o → modes_in (word_in 3 l) ≡ m → is_some s ≡ true → is_some o ≡ true → is_some m ≡ true
+      → Next (answered run l s o m)
+  answered_next (Some s) (Some o) (Some m) verb subject object modes has_s has_o has_m =
+      noted_next (Ask (verdict_of_cases (ruling run.journal) s o m)) (verb, subject, object, modes) refl
+  answered_next (Some s) (Some o) None verb subject object modes has_s has_o has_m = cc
+  answered_next (Some s) None m verb subject object modes has_s has_o has_m = cc
+  answered_next None o m verb subject object modes has_s has_o has_m = cc
+
+  awaited_next : (pid : Option Pid) → verb_in l ≡ Some WaitVerb → pid_in names (word_in 1 l) ≡ pid → is_some pid ≡ true → Next (awaited run l pid)
+  awaited_next None verb at has = cc
+  awaited_next (Some pid) verb at has = noted_next (Wait pid) (verb, at) tt
+
+  entered_next : (call : Option Call) → call_of_line labels names l ≡ call → is_some call ≡ true → Next (entered run l call)
+  entered_next None of has = cc
+  entered_next (Some call) of has = stepped_next call of
+
+  made_some : {A C : Type 0} (a : Option A) (make : A → C) → is_some a ≡ true → is_some (of_one a make) ≡ true
+  made_some None make found = cc
+  made_some (Some x) make found = refl
+
+  known_label : (word : List ℕ) → has_name labels word ≡ true → is_some (id_of labels word) ≡ true
+  known_label word has = rw has refl
+
+  known_modes : (word : List ℕ) → is_modes word ≡ true → is_some (modes_in word) ≡ true
+  known_modes word are = rw are refl
+
+  -- a call whose words are found leaves one thing in the record
+  pub verb_next : (verb : Verb) → verb_in l ≡ Some verb → IsMade labels names l verb → Next (after_verb labels names run l (Some verb))
+  verb_next Write verb made = written_next (compiled labels (word_in 1 l) l.text.bytes) verb refl
+  verb_next AskVerb verb made =
+      answered_next (id_of labels (word_in 1 l)) (id_of labels (word_in 2 l)) (modes_in (word_in 3 l)) verb refl refl refl
+      (known_label (word_in 1 l) made.0) (known_label (word_in 2 l) made.1) (known_modes (word_in 3 l) made.2)
+  verb_next WaitVerb verb made = awaited_next (pid_in names (word_in 1 l)) verb refl made
+  verb_next (TaskVerb v) verb made =
+      entered_next (of_one (task_call labels names l v) (λ call. Task call)) (ap (call_by labels names l) verb)
+      (made_some (task_call labels names l v) (λ call. Task call) made)
+  verb_next (TreeVerb v) verb made =
+      entered_next (of_one (tree_call l v) (λ call. Tree call)) (ap (call_by labels names l) verb)
+      (made_some (tree_call l v) (λ call. Tree call) made)
+
+-- how a run comes to be, line by line
+pub data Replays (labels names : List (List ℕ)) : List ScriptLine → Run → Type 0 where
+  first : Replays labels names [] run_first
+  more : (above : List ScriptLine) (l : ScriptLine) (run after : Run) → Replays labels names above run → IsGoodLine above l
+      → IsInStep above run.world.tasks → (rest : List (List ℕ)) → names ≡ task_names (above ++ l ∷ []) ++ rest
+      → IsNext labels names run l after → Replays labels names (above ++ l ∷ []) after
+
+-- one good line
+line_next : (above : List ScriptLine) (l : ScriptLine) (behind : List ScriptLine) (run : Run) → IsGoodLine above l → IsInStep above run.world.tasks
+    → IsNext (table_of (above ++ l ∷ behind)) (task_names (above ++ l ∷ behind)) run l
+    (after_line (table_of (above ++ l ∷ behind)) (task_names (above ++ l ∷ behind)) run l)
+line_next above l behind run good in_step =
+    let labels = table_of (above ++ l ∷ behind) in
+    let names = task_names (above ++ l ∷ behind) in
+    subst (λ verb. IsNext labels names run l (after_verb labels names run l verb)) (sym (good_verb above l good))
+    (verb_next labels names run l (number_is_pid above run l good in_step) good.verb (good_verb above l good) (line_is_made above l behind good))
+
+lines_replay : (lines above ls : List ScriptLine) → above ++ ls ≡ lines → AreGoodLines above ls → IsNameTable (task_names lines) → (run : Run)
+    → IsInStep above run.world.tasks → Replays (table_of lines) (task_names lines) above run
+    → Replays (table_of lines) (task_names lines) lines (fold (after_line (table_of lines) (task_names lines)) run ls)
+lines_replay lines above [] same good table run in_step replays =
+    subst (λ (a : List ScriptLine). Replays (table_of lines) (task_names lines) a run) (sym (append-nil above) ∙ same) replays
+lines_replay lines above (l ∷ ls) same good table run in_step replays =
+    let labels = table_of lines in
+    let names = task_names lines in
+    let after = after_line labels names run l in
+    let one : IsNext labels names run l after =
+    subst (λ whole. IsNext (table_of whole) (task_names whole) run l (after_line (table_of whole) (task_names whole) run l)) same
+    (line_next above l ls run good.0 in_step) in
+    let next : IsInStep (above ++ l ∷ []) after.world.tasks =
+    subst (λ whole. IsInStep (above ++ l ∷ []) (after_line labels (task_names whole) run l).world.tasks) same
+    (line_in_step above l ls labels run good.0 (subst (λ whole. IsNameTable (task_names whole)) (sym same) table) in_step) in
+    let rest = names_behind (above ++ l ∷ []) ls in
+    let whole : (above ++ l ∷ []) ++ ls ≡ lines = append_assoc above (l ∷ []) ls ∙ same in
+    lines_replay lines (above ++ l ∷ []) ls whole good.1 table after next
+    (more above l run after replays good.0 in_step rest.0 (ap task_names (sym whole) ∙ rest.1) one)
+
+-- the run of a script
+pub script_replays : (bytes : List ℕ) (lines : List ScriptLine) → parse bytes ≡ Ok lines
+    → Replays (table_of lines) (task_names lines) lines (run_of (table_of lines) (task_names lines) lines)
+script_replays bytes lines is =
+    lines_replay lines [] lines refl (good_lines bytes lines is) (names_are_a_table bytes lines is) run_first first_in_step first
