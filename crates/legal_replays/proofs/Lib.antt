@@ -6,3 +6,6 @@ pub mod Judged
 pub mod Children
 pub mod Creds
 pub mod Answered
+pub mod Lineages
+pub mod ForkLines
+pub mod Forks
