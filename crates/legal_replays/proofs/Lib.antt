@@ -9,3 +9,4 @@ pub mod Answered
 pub mod Lineages
 pub mod ForkLines
 pub mod Forks
+pub mod Orders
