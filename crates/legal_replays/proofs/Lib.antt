@@ -10,3 +10,5 @@ pub mod Lineages
 pub mod ForkLines
 pub mod Forks
 pub mod Orders
+pub mod WaitLines
+pub mod Waits
