@@ -4,12 +4,10 @@ use Rattle.std.proofs.lemmas.Bool.{ne_eqb}
 use Rattle.smack_base.specs.declared.ids.Pid.{Pid}
 use Rattle.rules_spec.specs.declared.Verdict.{Verdict}
 use Rattle.rules_spec.specs.Rulings.{Ruling}
-use Rattle.world_spec.specs.declared.Why.{Why}
 use Rattle.world_spec.specs.declared.Why.TheVariants.{Exists, NoSuchTask, TasksFull}
 use Rattle.world_spec.specs.declared.Question.{Question}
 use Rattle.world_spec.specs.declared.Part.{Part}
 use Rattle.world_spec.specs.declared.Part.TheVariants.{Refuses, Asks}
-use Rattle.world_spec.specs.declared.TaskCall.{TaskCall}
 use Rattle.world_spec.specs.declared.TaskCall.TheVariants.{Fork, Exit, Relabel, DropCap, SelfRules, Relabels, Kill, Take, TraceRead, TraceAttach}
 use Rattle.world_spec.specs.declared.TreeCall.TheVariants.{Create, Unlink, ListDir}
 use Rattle.world_spec.specs.declared.Call.{Call}

@@ -1,12 +1,12 @@
-use Rattle.std.proofs.Common.{◌≡◌, ◌≤◌, ◌<◌, ℕ, zero, suc, Bool, true, false, ◌&&◌, ◌||◌, ◌==◌, if◌then◌else◌, inl, inr, List, [], ◌∷◌, ◌++◌, length, take, refl, sym, ap, subst, ◌∙◌, arith}
+use Rattle.std.proofs.Common.{◌≡◌, ◌≤◌, ◌<◌, ℕ, zero, suc, Bool, true, false, ◌&&◌, ◌||◌, ◌==◌, if◌then◌else◌, List, [], ◌∷◌, ◌++◌, length, take, refl, sym, ap, ◌∙◌, arith}
 use Rattle.std.specs.Prelude.{nat_lt}
 use Rattle.std.specs.List.{list_any, AllByRecursion}
-use Rattle.std.proofs.lemmas.Bool.{cases_Bool, eqb-true, le-ltb}
+use Rattle.std.proofs.lemmas.Bool.{eqb-true, le-ltb}
 use Rattle.std.proofs.lemmas.List.{take-append-le}
 use Rattle.rules_spec.specs.declared.Batch.{Batch}
 use Rattle.rules_spec.specs.Rulings.{ruling}
 use Rattle.script_spec.specs.Lines.{ScriptLine}
-use Rattle.script_spec.specs.Tasks.{calls_by, task_names}
+use Rattle.script_spec.specs.Tasks.{calls_by}
 use Rattle.world_spec.specs.declared.Entry.{Entry}
 use Rattle.world_spec.specs.Worlds.{World, world_first, creds_of}
 use Rattle.world_spec.specs.Replays.{AreSteps, StandsOver, version_of, after_entry, replay_of, makes, comes_before_call, up_to_last, cred_at}
@@ -70,8 +70,8 @@ module _ (labels names : List (List ℕ)) where
       (neither ((l.task == k) && nat_lt l.seq q) (makes k (entry_by run l call).reply)
       (no_call (l.task == k) (nat_lt l.seq q)
       (λ own.
-        let count : calls_by above l.task ≡ calls_by above k = ap (λ t. calls_by above t) (eqb-true l.task k own) in
-        le-ltb l.seq q (omega (arith, good.seq, count, within.to))))
+      let count : calls_by above l.task ≡ calls_by above k = ap (λ t. calls_by above t) (eqb-true l.task k own) in
+      le-ltb l.seq q (omega (arith, good.seq, count, within.to))))
       (step_makes run.world (ruling run.journal) l.task k call (omega (arith, within.there, in_step.many))))
   cred_kept above run after l replays good in_step (asked what of so) k q m within = refl
 
@@ -97,7 +97,7 @@ module _ (labels names : List (List ℕ)) where
       at_is_now journal run.history l.task l.seq stands.steps
       (all_stand (λ e. e.task ≡ l.task → e.seq < l.seq) run.history
       (λ i e at own.
-        let within = calls_within labels names above run replays e.task e.seq e.version e.version (entry_call i e at) in
-        let count : calls_by above e.task ≡ calls_by above l.task = ap (λ t. calls_by above t) own in
-        omega (arith, within.to, count, good.seq)))
+      let within = calls_within labels names above run replays e.task e.seq e.version e.version (entry_call i e at) in
+      let count : calls_by above e.task ≡ calls_by above l.task = ap (λ t. calls_by above t) own in
+      omega (arith, within.to, count, good.seq)))
       ∙ ap (λ u. creds_of u l.task) (sym stands.world)

@@ -1,11 +1,9 @@
-use Rattle.std.proofs.Common.{◌≡◌, ℕ, ◌+◌, Bool, true, false, if◌then◌else◌, List, [], ◌∷◌, ◌++◌, length, refl, sym, ap, ◌∙◌, arith, append-nil, Option, Some, None, Result, Ok, Err}
+use Rattle.std.proofs.Common.{◌≡◌, ℕ, ◌+◌, Bool, true, false, if◌then◌else◌, List, [], ◌∷◌, ◌++◌, length, refl, ap, ◌∙◌, arith, Option, Some, None, Result, Ok, Err}
 use Rattle.std.specs.Prelude.{map, reverse}
 use Rattle.std.specs.List.{filter}
 use Rattle.std.proofs.lemmas.List.{length-reverse, length-map, map-append, reverse-append}
 use Rattle.std.proofs.lemmas.List.Elements.{filter-append}
-use Rattle.smack_base.specs.declared.ids.LabelId.{LabelId}
 use Rattle.smack_base.specs.declared.ids.Pid.{Pid}
-use Rattle.smack_base.specs.declared.cap.Cap.{Cap}
 use Rattle.file_spec.specs.declared.Refusal.{Refusal}
 use Rattle.file_spec.specs.declared.Compiled.{Compiled}
 use Rattle.file_spec.specs.declared.Compiled.TheVariants.{Rules, SelfRules, Relabels}
@@ -13,19 +11,18 @@ use Rattle.file_spec.specs.Files.{compiled}
 use Rattle.text_spec.specs.Names.{id_of}
 use Rattle.script_spec.specs.declared.Verb.{Verb}
 use Rattle.script_spec.specs.declared.Verb.TheVariants.{Write, Ask, Wait, Task as TaskVerbOf, Tree as TreeVerbOf}
-use Rattle.script_spec.specs.declared.TaskVerb.{TaskVerb}
 use Rattle.script_spec.specs.declared.TaskVerb.TheVariants.{Fork as ForkVerb, Exit as ExitVerb, Relabel as RelabelVerb, Drop, Kill as KillVerb, Take as TakeVerb, Trace}
 use Rattle.script_spec.specs.declared.TraceWay.{TraceWay}
 use Rattle.script_spec.specs.declared.TraceWay.TheVariants.{Read, Attach}
 use Rattle.script_spec.specs.Words.{cap_of, signal_of, trace_way_of}
 use Rattle.script_spec.specs.Lines.{ScriptLine, word_in, verb_in}
-use Rattle.script_spec.specs.Tasks.{change_by, change_of, is_fork, forked_name, parents_in, task_names}
+use Rattle.script_spec.specs.Tasks.{change_of, is_fork, parents_in, task_names}
 use Rattle.world_spec.specs.declared.TaskCall.{TaskCall}
 use Rattle.world_spec.specs.declared.TaskCall.TheVariants.{Fork}
 use Rattle.world_spec.specs.declared.TreeCall.{TreeCall}
 use Rattle.world_spec.specs.declared.Call.{Call}
 use Rattle.world_spec.specs.declared.Call.TheVariants.{Task, Tree}
-use Rattle.replay_spec.specs.Calls.{pid_in, of_one, of_two, traced, task_call, tree_call, file_call, call_by, call_of_line}
+use Rattle.replay_spec.specs.Calls.{pid_in, of_one, of_two, traced, tree_call, file_call, call_by, call_of_line}
 use Rattle.replayed_records.proofs.KnownWords.{forks_counted}
 
 -- a call that is a fork, where there is one

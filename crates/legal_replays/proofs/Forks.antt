@@ -1,5 +1,4 @@
-use Rattle.std.proofs.Common.{◌≡◌, ◌≤◌, ◌<◌, ◌⊎◌, ℕ, ◌+◌, zero, suc, Bool, true, false, ◌==◌, inl, inr, if◌then◌else◌, List, [], ◌∷◌, ◌++◌, length, length-append, refl, sym, ap, subst, ◌∙◌, arith, append_assoc, Option, Some, None}
-use Rattle.std.specs.Prelude.{nat_le}
+use Rattle.std.proofs.Common.{◌≡◌, ◌<◌, ℕ, ◌+◌, Bool, true, false, ◌==◌, inl, inr, if◌then◌else◌, List, [], ◌∷◌, ◌++◌, length, length-append, refl, sym, ap, subst, ◌∙◌, arith, append_assoc, Option, Some, None}
 use Rattle.std.proofs.lemmas.Bool.{cases_Bool, eqb-true, lt-leb}
 use Rattle.smack_base.specs.declared.ids.Pid.{Pid}
 use Rattle.rules_spec.specs.Rulings.{ruling}
@@ -13,7 +12,7 @@ use Rattle.world_spec.specs.declared.Call.{Call}
 use Rattle.world_spec.specs.declared.Call.TheVariants.{Task}
 use Rattle.world_spec.specs.declared.Reply.TheVariants.{Child}
 use Rattle.world_spec.specs.declared.Entry.{Entry}
-use Rattle.world_spec.specs.Worlds.{was_made, is_live, most_tasks}
+use Rattle.world_spec.specs.Worlds.{most_tasks}
 use Rattle.world_spec.specs.Steps.{step}
 use Rattle.record_spec.specs.declared.AskedWhat.{AskedWhat}
 use Rattle.record_spec.specs.declared.AskedWhat.TheVariants.{Ask, Refused, Wait}
@@ -27,10 +26,9 @@ use Rattle.plain_records.proofs.Tasks.{names_more}
 use Rattle.replayed_records.proofs.Numbers.{none_made, row_is_live}
 use Rattle.replayed_records.proofs.InStep.{IsInStep, next_pid}
 use Rattle.legal_replays.proofs.Places.{stands_more, stands_front, stands_last}
-use Rattle.legal_replays.proofs.Runs.{batch_by, entry_by, IsNext, batch, entry, asked, Replays, first, more}
-use Rattle.legal_replays.proofs.Growth.{tasks_more}
-use Rattle.legal_replays.proofs.Children.{fork_number, fork_replies}
-use Rattle.legal_replays.proofs.Lineages.{parent_of, AreOlder, parent_within, parent_below, parent_kept, newest_parent}
+use Rattle.legal_replays.proofs.Runs.{entry_by, IsNext, batch, entry, asked, Replays, first, more}
+use Rattle.legal_replays.proofs.Children.{fork_replies}
+use Rattle.legal_replays.proofs.Lineages.{parent_of, AreOlder, parent_below, parent_kept, newest_parent}
 use Rattle.legal_replays.proofs.ForkLines.{fork_line, parents_more, parents_many}
 
 -- a fork in the history: its number is the pid, and the lines so far have its parent
@@ -109,8 +107,8 @@ module _ (above : List ScriptLine) (l : ScriptLine) (nothing : is_fork (change_o
   still_forked : (history : List Entry) → AreForked above history → AreForked (above ++ l ∷ []) history
   still_forked history forked = record {
     known = λ i e number pid at is.
-      let k = forked.known i e number pid at is in
-      record { is_pid = k.is_pid; parent = ap (λ ps. parent_of ps number) same_parents ∙ k.parent };
+        let k = forked.known i e number pid at is in
+        record { is_pid = k.is_pid; parent = ap (λ ps. parent_of ps number) same_parents ∙ k.parent };
     there = λ task parent is. forked.there task parent (ap (λ ps. parent_of ps task) (sym same_parents) ∙ is);
     older = subst AreOlder (sym same_parents) forked.older;
   }
@@ -122,10 +120,10 @@ module _ (above : List ScriptLine) (l : ScriptLine) (nothing : is_fork (change_o
       let same = still_forked history forked in
       record {
         known = λ i x number pid at is.
-          elim (stands_more history e i x at) [
-            | inl old ↦ same.known i x number pid old is
-            | inr new ↦ absurd (quiet pid (ap (λ y. y.call) (sym new.1) ∙ is.0))
-          ];
+            elim (stands_more history e i x at) [
+              | inl old ↦ same.known i x number pid old is
+              | inr new ↦ absurd (quiet pid (ap (λ y. y.call) (sym new.1) ∙ is.0))
+            ];
         there = λ task parent is. longer_fork history e task parent (same.there task parent is);
         older = same.older;
       }
@@ -176,7 +174,7 @@ module _ (labels names : List (List ℕ)) (above : List ScriptLine) (l : ScriptL
         is_pid = omega (arith, ap (λ (p : Pid). p.0) named, numbered, in_step.many);
         parent =
             ap (λ ps. parent_of ps number) one_parent ∙ ap (parent_of (l.task ∷ parents_in above)) next
-                ∙ newest_parent l.task (parents_in above) ∙ ap (λ k. Some k) (sym (ap (λ y. y.task) new));
+            ∙ newest_parent l.task (parents_in above) ∙ ap (λ k. Some k) (sym (ap (λ y. y.task) new));
       }
 
   new_fork : (call : Call) → call ≡ Task (Fork new_pid) → (task : ℕ) → task ≡ length (parents_in above) + 1
@@ -208,17 +206,17 @@ module _ (labels names : List (List ℕ)) (above : List ScriptLine) (l : ScriptL
       → AreForked (above ++ l ∷ []) (run.history ++ entry_by run l call ∷ [])
   fork_entry call is forked = record {
     known = λ i x number pid at fork.
-      elim (stands_more run.history (entry_by run l call) i x at) [
-        | inl old ↦
-            let k = forked.known i x number pid old fork in
-            record {
-              is_pid = k.is_pid;
-              parent =
-                  ap (λ ps. parent_of ps number) one_parent
-                  ∙ parent_kept l.task (parents_in above) number (parent_below (parents_in above) number x.task k.parent) ∙ k.parent;
-            }
-        | inr new ↦ known_fork x call is new.1 number pid fork
-      ];
+        elim (stands_more run.history (entry_by run l call) i x at) [
+          | inl old ↦
+              let k = forked.known i x number pid old fork in
+              record {
+                is_pid = k.is_pid;
+                parent =
+                    ap (λ ps. parent_of ps number) one_parent
+                    ∙ parent_kept l.task (parents_in above) number (parent_below (parents_in above) number x.task k.parent) ∙ k.parent;
+              }
+          | inr new ↦ known_fork x call is new.1 number pid fork
+        ];
     there = λ task parent is_parent. there_with call is forked task parent (ap (λ ps. parent_of ps task) (sym one_parent) ∙ is_parent);
     older = subst AreOlder (sym one_parent) (omega (arith, good.there, parents_many above), forked.older);
   }
@@ -240,8 +238,8 @@ module _ (labels names : List (List ℕ)) (table : IsNameTable names) where
         | inr nothing ↦
             quiet_entry above l nothing run.history (entry_by run l call)
             (λ pid is.
-              let line = fork_line labels names l pid (of ∙ ap (λ c. Some c) is) in
-              true_is_not_false (is_fork (change_of l)) (ap (λ v. is_fork (change_by v l)) line.0) nothing)
+            let line = fork_line labels names l pid (of ∙ ap (λ c. Some c) is) in
+            true_is_not_false (is_fork (change_of l)) (ap (λ v. is_fork (change_by v l)) line.0) nothing)
             forked
       ]
 

@@ -1,15 +1,11 @@
-use Rattle.std.proofs.Common.{◌≡◌, ◌≤◌, ◌<◌, ◌⊎◌, ℕ, ◌+◌, ◌==◌, cond, inl, inr, List, [], ◌∷◌, ◌++◌, length, length-append, refl, sym, ap, subst, ◌∙◌, arith}
+use Rattle.std.proofs.Common.{◌≡◌, ◌≤◌, ◌<◌, ◌⊎◌, ℕ, ◌+◌, ◌==◌, cond, inl, inr, List, [], ◌∷◌, ◌++◌, length, length-append, refl, ap, ◌∙◌, arith}
 use Rattle.std.proofs.lemmas.Bool.{eq-eqb}
 use Rattle.std.proofs.lemmas.List.Sums.{sum_by-append}
-use Rattle.rules_spec.specs.declared.Batch.{Batch}
 use Rattle.script_spec.specs.Lines.{ScriptLine}
 use Rattle.script_spec.specs.Tasks.{calls_by, change_of, forked_name, task_names}
-use Rattle.world_spec.specs.declared.Entry.{Entry}
-use Rattle.record_spec.specs.declared.AskedLine.{AskedLine}
 use Rattle.record_spec.specs.declared.RunRecord.{RunRecord}
 use Rattle.replay_spec.specs.Replays.{Run}
-use Rattle.legal_spec.specs.Calls.{Stands, IsCall, batch as batch_call, entry as entry_call, asked as asked_call}
-use Rattle.plain_records.proofs.GoodLines.{IsGoodLine}
+use Rattle.legal_spec.specs.Calls.{IsCall, batch as batch_call, entry as entry_call, asked as asked_call}
 use Rattle.plain_records.proofs.Tasks.{names_more}
 use Rattle.legal_replays.proofs.Places.{stands_more, asked_more}
 use Rattle.legal_replays.proofs.Runs.{batch_by, entry_by, asked_by, IsNext, batch, entry, asked, Replays, first, more}

@@ -13,7 +13,7 @@ use Rattle.legal_spec.specs.Calls.{Stands, entry as entry_call}
 use Rattle.legal_spec.specs.Legal.{AreJudged}
 use Rattle.world_replays.proofs.Standing.{first_stands, step_stands, longer_stands}
 use Rattle.legal_replays.proofs.Places.{stands_more, stands_in}
-use Rattle.legal_replays.proofs.Runs.{batch_by, step_by, entry_by, IsNext, batch, entry, asked, Replays, first, more}
+use Rattle.legal_replays.proofs.Runs.{batch_by, entry_by, IsNext, batch, entry, asked, Replays, first, more}
 use Rattle.legal_replays.proofs.Growth.{record_of, calls_within}
 
 -- the newest version is all of the journal
@@ -42,7 +42,6 @@ module _ (labels names : List (List ℕ)) where
   -- the world of a run stands for its history over its journal
   pub next_stands : (run after : Run) (l : ScriptLine) → IsNext labels names run l after → StandsOver run.journal run.history run.world
       → StandsOver after.journal after.history after.world
-
   next_stands run after l (batch ops of may) stands = longer_stands run.journal (batch_by l ops ∷ []) run.history run.world stands
   next_stands run after l (entry call of) stands =
       let now = newest run.journal in
@@ -65,7 +64,6 @@ module _ (labels names : List (List ℕ)) where
 
   versions_next : (above : List ScriptLine) (run after : Run) (l : ScriptLine) → Replays labels names above run
       → IsNext labels names run l after → AreRising run rising_versions → AreRising after rising_versions
-
   versions_next above run after l replays (batch ops of may) rising = rising
   versions_next above run after l replays (entry call of) rising =
       pairs_more run.history (entry_by run l call) rising_versions rising
@@ -99,7 +97,7 @@ module _ (labels names : List (List ℕ)) where
       by after (entry call of) rising =
           pairs_more run.history (entry_by run l call) rising_numbers rising
           (λ i e at same.
-            let within = calls_within labels names above run replays e.task e.seq e.version e.version (entry_call i e at) in
-            let count : ◌≡◌ {A = ℕ} (calls_by above e.task) (calls_by above l.task) = ap (λ t. calls_by above t) same in
-            omega (arith, within.to, count, good.seq))
+          let within = calls_within labels names above run replays e.task e.seq e.version e.version (entry_call i e at) in
+          let count : ◌≡◌ {A = ℕ} (calls_by above e.task) (calls_by above l.task) = ap (λ t. calls_by above t) same in
+          omega (arith, within.to, count, good.seq))
       by after (asked what of so) rising = rising

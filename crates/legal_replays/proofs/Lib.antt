@@ -12,3 +12,4 @@ pub mod Forks
 pub mod Orders
 pub mod WaitLines
 pub mod Waits
+pub mod Fitting

@@ -1,4 +1,4 @@
-use Rattle.std.proofs.Common.{◌≡◌, ◌≤◌, ◌<◌, ◌⊎◌, ℕ, ◌+◌, zero, suc, inl, inr, List, [], ◌∷◌, ◌++◌, length, refl, sym, ap, subst, ◌∙◌, arith}
+use Rattle.std.proofs.Common.{◌≡◌, ◌≤◌, ◌<◌, ◌⊎◌, ℕ, zero, suc, inl, inr, List, [], length, refl, sym, ap, ◌∙◌, arith}
 use Rattle.std.proofs.lemmas.Option.{slice_get_within}
 use Rattle.smack_base.specs.declared.ids.Pid.{Pid}
 use Rattle.rules_spec.specs.Rulings.{ruling}
@@ -7,16 +7,13 @@ use Rattle.script_spec.specs.Tasks.{calls_by, parents_in, task_names}
 use Rattle.world_spec.specs.declared.TaskCall.TheVariants.{Fork}
 use Rattle.world_spec.specs.declared.Call.{Call}
 use Rattle.world_spec.specs.declared.Call.TheVariants.{Task}
-use Rattle.world_spec.specs.declared.Reply.TheVariants.{Child}
 use Rattle.world_spec.specs.declared.Entry.{Entry}
 use Rattle.world_spec.specs.Steps.{step}
 use Rattle.replay_spec.specs.Replays.{Run}
-use Rattle.legal_spec.specs.Calls.{Stands, IsForkOf, IsNumberOf, IsTask, entry as entry_call}
-use Rattle.plain_records.proofs.GoodLines.{IsGoodLine}
-use Rattle.replayed_records.proofs.InStep.{IsInStep}
+use Rattle.legal_spec.specs.Calls.{Stands, IsForkOf, IsNumberOf, entry as entry_call}
 use Rattle.legal_replays.proofs.Places.{stands_more, stands_in}
 use Rattle.legal_replays.proofs.Runs.{entry_by, IsNext, batch, entry, asked, Replays, first, more}
-use Rattle.legal_replays.proofs.Growth.{CallIn, IsNewCall, call_grows, calls_within}
+use Rattle.legal_replays.proofs.Growth.{CallIn, call_grows, calls_within}
 use Rattle.legal_replays.proofs.Judged.{run_stands}
 use Rattle.legal_replays.proofs.Children.{fork_number}
 use Rattle.legal_replays.proofs.Lineages.{parent_there}

@@ -140,9 +140,10 @@ module _ (labels names : List (List ℕ)) (run : Run) (l : ScriptLine) (is : num
           → Next (if may then published run l ops else noted run l (Refused (word_in 1 l) NotPrivileged))
       by true may = published_next ops (verb, made) may
       by false may =
-          noted_next (Refused (word_in 1 l) NotPrivileged) (verb, refl, (ops, made))
-          (rules_of_file labels (word_in 1 l) l.text.bytes ops made,
-          subst (λ (k : ℕ). is_effective (creds_of run.world k) MacAdmin (ruling run.journal) ≡ false) is may)
+          noted_next (Refused (word_in 1 l) NotPrivileged) (verb, refl, (ops, made)) (
+            rules_of_file labels (word_in 1 l) l.text.bytes ops made,
+            subst (λ (k : ℕ). is_effective (creds_of run.world k) MacAdmin (ruling run.journal) ≡ false) is may,
+          )
   written_next (Ok (SelfRules rules)) verb made =
       stepped_next (Task (RulesOfTask rules)) (ap (call_by labels names l) verb ∙ ap (λ m. of_one (file_call m) (λ call. Task call)) made)
   written_next (Ok (Relabels list)) verb made =

@@ -1,23 +1,22 @@
-use Rattle.std.proofs.Common.{◌≡◌, ◌≤◌, ◌<◌, ℕ, ◌+◌, Bool, true, false, ◌||◌, ◌==◌, if◌then◌else◌, inl, inr, List, [], ◌∷◌, ◌++◌, length, refl, sym, ap, subst, ◌∙◌, arith, Some}
+use Rattle.std.proofs.Common.{◌≡◌, ◌≤◌, ◌<◌, ℕ, Bool, true, false, ◌||◌, ◌==◌, if◌then◌else◌, inl, inr, List, [], ◌∷◌, ◌++◌, length, refl, sym, ap, subst, ◌∙◌, arith}
 use Rattle.std.specs.List.{list_any}
-use Rattle.std.proofs.lemmas.Bool.{cases_Bool, eqb-true, eq-eqb, ltb-true}
+use Rattle.std.proofs.lemmas.Bool.{eqb-true, eq-eqb}
 use Rattle.std.proofs.lemmas.Option.{slice_get_within}
 use Rattle.smack_base.specs.declared.ids.Pid.{Pid}
 use Rattle.script_spec.specs.Lines.{ScriptLine}
 use Rattle.script_spec.specs.Tasks.{change_of, is_fork, has_wait, calls_by, parents_in, task_names, lineage}
 use Rattle.world_spec.specs.declared.Entry.{Entry}
 use Rattle.record_spec.specs.declared.AskedLine.{AskedLine}
-use Rattle.record_spec.specs.declared.AskedWhat.{AskedWhat}
 use Rattle.record_spec.specs.declared.AskedWhat.TheVariants.{Wait}
 use Rattle.replay_spec.specs.Plain.{IsNameTable}
 use Rattle.replay_spec.specs.Replays.{Run}
-use Rattle.legal_spec.specs.Calls.{Stands, IsForkOf, Descends, itself, child, entry as entry_call}
+use Rattle.legal_spec.specs.Calls.{Stands, Descends, itself, child, entry as entry_call}
 use Rattle.legal_spec.specs.Lines.{IsAskedOfLine}
 use Rattle.legal_spec.specs.Legal.{HasWaited}
 use Rattle.plain_records.proofs.GoodLines.{IsGoodLine}
-use Rattle.legal_replays.proofs.Places.{asked_more, stands_front}
+use Rattle.legal_replays.proofs.Places.{asked_more}
 use Rattle.legal_replays.proofs.Runs.{asked_by, entry_by, IsNext, batch, entry, asked, Replays, first, more}
-use Rattle.legal_replays.proofs.Growth.{record_of, CallIn, IsNewCall, call_grows, calls_within, tasks_more}
+use Rattle.legal_replays.proofs.Growth.{record_of, CallIn, call_grows, calls_within, tasks_more}
 use Rattle.legal_replays.proofs.Lineages.{lineage_own, lineage_child, lineage_kept}
 use Rattle.legal_replays.proofs.ForkLines.{parents_more, parents_many}
 use Rattle.legal_replays.proofs.Forks.{HasFork, AreForked, longer_fork, forks_are_known}
@@ -101,28 +100,28 @@ module _ (labels names : List (List ℕ)) where
         waited = waited_more above l pid.0 was.there was.waited;
         fork = fork_kept run after l next pid.0 a.task was.fork;
         told = λ task seq needs reaches c below.
-          elim (call_grows labels names run after l next task seq needs reaches c) [
-            | inl old ↦
-                let within = calls_within labels names above run replays task seq needs reaches old in
-                was.told task seq needs reaches old (below_before above l pid.0 task within.there below)
-            | inr new ↦
-                absurd
-                (never (below_before above l pid.0 l.task good.there
-                (subst (λ (k : ℕ). is_below (above ++ l ∷ []) pid.0 k ≡ true) new.own below)))
-          ];
+            elim (call_grows labels names run after l next task seq needs reaches c) [
+              | inl old ↦
+                  let within = calls_within labels names above run replays task seq needs reaches old in
+                  was.told task seq needs reaches old (below_before above l pid.0 task within.there below)
+              | inr new ↦
+                  absurd
+                  (never (below_before above l pid.0 l.task good.there
+                  (subst (λ (k : ℕ). is_below (above ++ l ∷ []) pid.0 k ≡ true) new.own below)))
+            ];
         behind = λ i k e f below at_e at_f own later.
-          elim (entry_grows labels names run after l next i e at_e) [
-            | inl old_e ↦
-                let within = calls_within labels names above run replays e.task e.seq e.version e.version (entry_call i e old_e) in
-                elim (entry_grows labels names run after l next k f at_f) [
-                  | inl old_f ↦ was.behind i k e f (below_before above l pid.0 e.task within.there below) old_e old_f own later
-                  | inr new_f ↦ omega (arith, new_f.0, slice_get_within run.history i e old_e)
-                ]
-            | inr new_e ↦
-                absurd
-                (never (below_before above l pid.0 l.task good.there
-                (subst (λ (t : ℕ). is_below (above ++ l ∷ []) pid.0 t ≡ true) new_e.1 below)))
-          ];
+            elim (entry_grows labels names run after l next i e at_e) [
+              | inl old_e ↦
+                  let within = calls_within labels names above run replays e.task e.seq e.version e.version (entry_call i e old_e) in
+                  elim (entry_grows labels names run after l next k f at_f) [
+                    | inl old_f ↦ was.behind i k e f (below_before above l pid.0 e.task within.there below) old_e old_f own later
+                    | inr new_f ↦ omega (arith, new_f.0, slice_get_within run.history i e old_e)
+                  ]
+              | inr new_e ↦
+                  absurd
+                  (never (below_before above l pid.0 l.task good.there
+                  (subst (λ (t : ℕ). is_below (above ++ l ∷ []) pid.0 t ≡ true) new_e.1 below)))
+            ];
       }
 
   -- a new one
@@ -138,10 +137,10 @@ module _ (labels names : List (List ℕ)) where
         (subst (λ (k : ℕ). HasFork run.history pid.0 k) (sym task) (forked.there pid.0 l.task line.child));
     told = λ k q n m c below. omega (arith, (calls_within labels names (above ++ l ∷ []) after replayed k q n m c).version, version, as_long);
     behind = λ i k e f below at_e at_f own later.
-      let at : Stands run.history k f = subst (λ (h : List Entry). Stands h k f) same at_f in
-      let within = calls_within labels names above run replays f.task f.seq f.version f.version (entry_call k f at) in
-      let count : calls_by above f.task ≡ calls_by above l.task = ap (λ t. calls_by above t) (own ∙ task) in
-      absurd (omega (arith, within.to, count, good.seq, seq, later));
+        let at : Stands run.history k f = subst (λ (h : List Entry). Stands h k f) same at_f in
+        let within = calls_within labels names above run replays f.task f.seq f.version f.version (entry_call k f at) in
+        let count : calls_by above f.task ≡ calls_by above l.task = ap (λ t. calls_by above t) (own ∙ task) in
+        absurd (omega (arith, within.to, count, good.seq, seq, later));
   }
 
   waits_are_told : IsNameTable names → (above : List ScriptLine) (run : Run) → Replays labels names above run → (i : ℕ) (a : AskedLine) (pid : Pid)
@@ -182,5 +181,5 @@ module _ (labels names : List (List ℕ)) where
         own = w.fork.own;
         told = λ task seq needs reaches down c. w.told task seq needs reaches c (descends above run.history forked pid.0 task down);
         behind = λ i k e f down at_e at_f own later.
-          w.behind i k e f (descends above run.history forked pid.0 e.task down) at_e at_f own later;
+            w.behind i k e f (descends above run.history forked pid.0 e.task down) at_e at_f own later;
       }

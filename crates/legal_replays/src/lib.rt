@@ -3,3 +3,10 @@
 //! Laws of the definitions alone: `parse` of script_spec, `replayed` of replay_spec and `IsLegalFor`
 //! of legal_spec. A law is the contract of a function without a body.
 #![tactic(auto)]
+
+ghost use Rattle.legal_spec.specs.Laws.{ReplayedIsLegal};
+
+/// The law: the record of a script that is replayed is legal for the script.
+pub fn replayed_records_are_legal()
+    ensures { ReplayedIsLegal }
+{}
