@@ -3,3 +3,4 @@ pub mod LongPaths
 pub mod PackedWords
 pub mod Pids
 pub mod PlainRecords
+pub mod LegalRecords

@@ -1,12 +1,12 @@
 //! Runs a script: its record.
 //!
 //! `replay` takes the calls of a script in written order, on one thread, each judged at the newest
-//! rule version. Its record is `replayed` of `record_spec`, one function of the script, and it is
-//! plain: its text tells all of it.
+//! rule version. Its record is `replayed` of `replay_spec`, one function of the script. It is plain,
+//! so its text tells all of it, and it is legal for the script.
 //!
 //! Stands on script_text for the calls, on smackfs for rule texts, on rule_fold and smack_decide
 //! for the answers to questions, on smack_world for the steps of object calls, and on plain_records
-//! for the law that replayed records are plain.
+//! and legal_replays for the laws that replayed records are plain, and legal.
 #![tactic(auto)]
 
 mod calls;

@@ -3,6 +3,7 @@ ghost use Rattle.script_spec.specs.Grammar.{most_lines, most_tasks, parse};
 ghost use Rattle.script_spec.specs.Tasks.{task_names};
 ghost use Rattle.script_text.specs.Lines.{call_seen};
 ghost use Rattle.script_text.specs.TaskTables.{names_in};
+ghost use Rattle.legal_spec.specs.Fits.{IsLegalFor};
 ghost use Rattle.replay_spec.specs.Plain.{IsPlain};
 ghost use Rattle.replay_spec.specs.Replays.{run_of, replayed};
 ghost use Rattle.script_run.specs.Running.{seen, IsRunning};
@@ -66,11 +67,13 @@ fn record_of(alloc: Global, script: &Script<'_>) -> Result<RunRecord, AllocError
 }
 
 /// The record of a script that is replayed: its calls are taken in written order, each judged at
-/// the newest version. Where the script was read from bytes, the record is plain.
-#[tactic(auto, using(crate::proofs::PlainRecords::replayed_are_plain))]
+/// the newest version. Where the script was read from bytes, the record is plain, and legal for the
+/// script.
+#[tactic(auto, using(crate::proofs::PlainRecords::replayed_are_plain, crate::proofs::LegalRecords::replayed_are_legal))]
 pub fn replay(alloc: Global, script: &Script<'_>) -> Result<RunRecord, AllocError>
     ensures replayed { IfOk result (λ r. r ≡ replayed script.now) }
     ensures plain { IfOk result (λ r. (bytes : List ℕ) → parse bytes ≡ Ok script.now → IsPlain r) }
+    ensures legal { IfOk result (λ r. (bytes : List ℕ) → parse bytes ≡ Ok script.now → IsLegalFor script.now r) }
 {
     record_of(alloc, script)
 }
