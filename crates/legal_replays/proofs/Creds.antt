@@ -1,4 +1,4 @@
-use Rattle.std.proofs.Common.{◌≡◌, ◌≤◌, ◌<◌, ℕ, zero, suc, Bool, true, false, ◌&&◌, ◌||◌, ◌==◌, if◌then◌else◌, List, [], ◌∷◌, ◌++◌, length, take, refl, sym, ap, ◌∙◌, arith}
+use Rattle.std.proofs.Common.{◌≡◌, ◌≤◌, ◌<◌, ℕ, Bool, true, false, ◌&&◌, ◌||◌, ◌==◌, if◌then◌else◌, List, [], ◌∷◌, ◌++◌, length, take, refl, sym, ap, ◌∙◌, arith}
 use Rattle.std.specs.Prelude.{nat_lt}
 use Rattle.std.specs.List.{list_any, AllByRecursion}
 use Rattle.std.proofs.lemmas.Bool.{eqb-true, le-ltb}
@@ -11,11 +11,12 @@ use Rattle.world_spec.specs.declared.Entry.{Entry}
 use Rattle.world_spec.specs.Worlds.{World, world_first, creds_of}
 use Rattle.world_spec.specs.Replays.{AreSteps, StandsOver, version_of, after_entry, replay_of, makes, comes_before_call, up_to_last, cred_at}
 use Rattle.replay_spec.specs.Replays.{Run}
-use Rattle.legal_spec.specs.Calls.{Stands, entry as entry_call}
+use Rattle.legal_spec.specs.Calls.{entry as entry_call}
 use Rattle.world_replays.proofs.Standing.{longer_stands}
 use Rattle.world_replays.proofs.Points.{kept_at, at_is_now}
 use Rattle.plain_records.proofs.GoodLines.{IsGoodLine}
 use Rattle.replayed_records.proofs.InStep.{IsInStep}
+use Rattle.legal_replays.proofs.Places.{all_stand}
 use Rattle.legal_replays.proofs.Runs.{batch_by, entry_by, IsNext, batch, entry, asked, Replays}
 use Rattle.legal_replays.proofs.Growth.{IsWithin, calls_within}
 use Rattle.legal_replays.proofs.Judged.{run_stands}
@@ -84,10 +85,6 @@ module _ (labels names : List (List ℕ)) where
   pub version_kept : (run after : Run) (l : ScriptLine) → IsNext labels names run l after → (n : ℕ) → n ≤ length run.journal
       → version_of after.journal n ≡ version_of run.journal n
   version_kept run after l next n within = ap ruling (front_kept run after l next n within)
-
-  all_stand : (P : Entry → Type 0) (es : List Entry) → ((i : ℕ) (e : Entry) → Stands es i e → P e) → AllByRecursion P es
-  all_stand P [] each = tt
-  all_stand P (e ∷ es) each = (each zero e refl, all_stand P es (λ i x at. each (suc i) x at))
 
   -- the credentials of a task at a good line are those that it has in the world
   pub cred_now : (above : List ScriptLine) (run : Run) (l : ScriptLine) → Replays labels names above run → IsGoodLine above l

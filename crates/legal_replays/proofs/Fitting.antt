@@ -15,6 +15,7 @@ use Rattle.legal_replays.proofs.Places.{stands_more, stands_front, stands_last, 
 use Rattle.legal_replays.proofs.Runs.{batch_by, entry_by, asked_by, IsNext, batch, entry, asked, Replays, first, more, script_replays}
 use Rattle.legal_replays.proofs.Growth.{record_of, calls_within}
 use Rattle.legal_replays.proofs.Judged.{entries_are_judged, numbers_rise}
+use Rattle.legal_replays.proofs.Listed.{listed_pairs, lines_are_listed}
 use Rattle.legal_replays.proofs.Answered.{batches_are_privileged, lines_are_answered}
 use Rattle.legal_replays.proofs.Forks.{forks_are_known}
 use Rattle.legal_replays.proofs.Orders.{number_there, number_is, behind_forks, calls_see, calls_are_told}
@@ -72,6 +73,7 @@ replayed_is_legal bytes lines is =
           each_call_is_once bytes lines is task seq
           ∙ ap {B = ℕ} (λ n. if nat_le 1 seq && nat_le seq n then 1 else 0) (sym (count task));
       rising = numbers_rise labels names lines run replays;
+      listed = listed_pairs run.asked (lines_are_listed labels names lines run replays);
       of_tasks = λ task seq needs reaches c. (
         record { 0 = task },
         number_there lines run.history forked task (calls_within labels names lines run replays task seq needs reaches c).there,

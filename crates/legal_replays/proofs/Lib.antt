@@ -12,4 +12,6 @@ pub mod Forks
 pub mod Orders
 pub mod WaitLines
 pub mod Waits
+pub mod Listed
 pub mod Fitting
+pub mod RefusedRecords

@@ -32,6 +32,10 @@ stands_in P [] i x all at = cc
 stands_in P (z ∷ zs) zero x all at = subst P (same_some z x at) all.0
 stands_in P (z ∷ zs) (suc i) x all at = stands_in P zs i x all.1 at
 
+pub all_stand : {X : Type 0} (P : X → Type 0) (xs : List X) → ((i : ℕ) (x : X) → Stands xs i x → P x) → AllByRecursion P xs
+all_stand P [] each = tt
+all_stand P (x ∷ xs) each = (each zero x refl, all_stand P xs (λ i y at. each (suc i) y at))
+
 -- x stood among the asked lines, or is the new one
 abbrev pub IsOldOr : List AskedLine → AskedLine → AskedLine → Type 0
 IsOldOr asked a x = ((j : ℕ) × Stands asked j x) ⊎ (x ≡ a)

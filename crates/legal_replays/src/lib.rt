@@ -4,9 +4,15 @@
 //! of legal_spec. A law is the contract of a function without a body.
 #![tactic(auto)]
 
+ghost use Rattle.legal_replays.specs.RefusedRecords.{RefusedRecords};
 ghost use Rattle.legal_spec.specs.Laws.{ReplayedIsLegal};
 
 /// The law: the record of a script that is replayed is legal for the script.
 pub fn replayed_records_are_legal()
     ensures { ReplayedIsLegal }
+{}
+
+/// Records that are not legal, and records that do not fit a script.
+pub fn records_that_are_refused()
+    ensures { RefusedRecords }
 {}

@@ -1,4 +1,4 @@
-use Rattle.std.specs.Prelude.{◌≡◌, ◌⊎◌, ℕ, ◌+◌, ◌==◌, List, Some, count_by}
+use Rattle.std.specs.Prelude.{◌≡◌, ◌<◌, ◌⊎◌, ℕ, ◌+◌, ◌==◌, List, Some, count_by}
 use Rattle.std.specs.List.{slice_get}
 use Rattle.smack_base.specs.declared.ids.Pid.{Pid}
 use Rattle.rules_spec.specs.declared.Batch.{Batch}
@@ -34,6 +34,10 @@ pub data IsCall (r : RunRecord) : ℕ → ℕ → ℕ → ℕ → Type 0 where
   batch : (i : ℕ) (b : Batch) → Stands r.journal i b → IsCall r b.task b.seq i (i + 1)
   entry : (i : ℕ) (e : Entry) → Stands r.history i e → IsCall r e.task e.seq e.version e.version
   asked : (i : ℕ) (a : AskedLine) → Stands r.asked i a → IsCall r a.task a.seq a.version a.version
+
+-- the order of asked, refused and waited lines: by the number of the task, and then by that of the call
+abbrev pub IsBefore : AskedLine → AskedLine → Type 0
+IsBefore a b = (a.task < b.task) ⊎ ((a.task ≡ b.task) × (a.seq < b.seq))
 
 -- how many calls a task has
 abbrev pub call_count : RunRecord → ℕ → ℕ

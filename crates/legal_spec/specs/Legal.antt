@@ -16,7 +16,7 @@ use Rattle.record_spec.specs.declared.AskedWhat.{AskedWhat}
 use Rattle.record_spec.specs.declared.AskedWhat.TheVariants.{Ask, Refused, Wait}
 use Rattle.record_spec.specs.declared.RunRecord.{RunRecord}
 use Rattle.replay_spec.specs.Laws.{calls_at}
-use Rattle.legal_spec.specs.Calls.{Stands, IsForkOf, IsTask, IsCall, call_count, Descends}
+use Rattle.legal_spec.specs.Calls.{Stands, IsForkOf, IsTask, IsCall, IsBefore, call_count, Descends}
 
 -- Each call once and in order.
 pub record IsEachCallOnce (r : RunRecord) : Type 0 where
@@ -26,6 +26,8 @@ pub record IsEachCallOnce (r : RunRecord) : Type 0 where
   -- the object calls of a task stand in the order of their numbers
   pub rising : (i k : ℕ) (e f : Entry) → Stands r.history i e → Stands r.history k f → i < k → e.task ≡ f.task
       → e.seq < f.seq
+  -- the other lines stand by task, and those of a task in the order of their numbers
+  pub listed : (i k : ℕ) (a b : AskedLine) → Stands r.asked i a → Stands r.asked k b → i < k → IsBefore a b
   -- only tasks make calls
   pub of_tasks : (task seq needs reaches : ℕ) → IsCall r task seq needs reaches → IsTask r.history task
   -- the object calls of a child stand behind the fork that made it

@@ -1,0 +1,154 @@
+use Rattle.std.proofs.Common.{◌≡◌, ℕ, zero, suc, Bool, true, false, inl, inr, [], ◌∷◌, refl, sym, ap, subst, ◌∙◌, arith}
+use Rattle.rules_spec.specs.declared.Verdict.{Verdict}
+use Rattle.smack_base.specs.declared.rule_op.RuleOp.TheVariants.{Set, Revoke}
+use Rattle.rules_spec.specs.AskedModes.{read}
+use Rattle.world_spec.specs.declared.Call.{Call}
+use Rattle.world_spec.specs.declared.Call.TheVariants.{Task}
+use Rattle.world_spec.specs.declared.TaskCall.TheVariants.{Fork, Exit, Take}
+use Rattle.world_spec.specs.declared.Reply.TheVariants.{Ok as Done, Child, Refused as RefusedBy}
+use Rattle.world_spec.specs.declared.Why.TheVariants.{NoSuchTask, Again}
+use Rattle.world_spec.specs.declared.Entry.{Entry}
+use Rattle.record_spec.specs.declared.AskedWhat.TheVariants.{Ask, Wait}
+use Rattle.legal_spec.specs.Calls.{Stands, IsForkOf, IsNumberOf, IsBefore, batch, asked, Descends, itself, call_count}
+use Rattle.legal_spec.specs.Legal.{IsLegal}
+use Rattle.legal_spec.specs.Fits.{IsRecorded, batch as batch_of, entry as entry_of, asked as asked_of, FitsScript}
+use Rattle.legal_replays.specs.RefusedRecords.{a_label, c_label, b_pid, published, entered, asked_in, by_rule, without_rule, stale_ask, wrong_answer, stale_child, early_wait, early_entry, early_child, swapped_batches, unprivileged_batch, falling_version, swapped_lines, unknown_task, missing_number, take_line, line_left_out, line_twice, other_call, RefusedRecords}
+use Rattle.legal_replays.proofs.Places.{same_some}
+
+same_child : (a b : ℕ) → Child a ≡ Child b → a ≡ b
+same_child a b is = cc
+
+ask : IsLegal stale_ask → ⊥
+ask legal =
+    omega (
+      arith,
+      legal.fresh.seen 0 1 0 1 2 0 0 (batch 0 (published 0 1 (Set a_label c_label read)) refl) (asked 0 (asked_in 0 2 0 (Ask without_rule)) refl)
+          (omega arith),
+    )
+
+answer : IsLegal wrong_answer → ⊥
+answer legal =
+    let wrong : ◌≡◌ {A = Bool} true false = ap (λ (v : Verdict). v.allowed) (legal.asked 0 (asked_in 0 1 0 (Ask by_rule)) refl).1 in cc
+
+child : IsLegal stale_child → ⊥
+child legal =
+    omega (
+      arith,
+      legal.fresh.forked 0 (entered 0 2 1 (Fork b_pid) (Child 1)) b_pid 1 1 0 0 refl (refl, refl) (asked 0 (asked_in 1 1 0 (Ask without_rule)) refl),
+    )
+
+-- the only fork of the history
+wait_number : (place number : ℕ) (fork : Entry) → Stands early_wait.history place fork → IsForkOf fork number b_pid → number ≡ 1
+wait_number zero number fork at is = same_child number 1 (sym is.1 ∙ sym (ap (λ (e : Entry). e.reply) (same_some _ fork at)))
+wait_number (suc n) number fork at is = cc
+
+wait : IsLegal early_wait → ⊥
+wait legal =
+    let w = legal.fresh.waited 0 (asked_in 0 2 0 (Wait b_pid)) b_pid refl refl in
+    let number = wait_number w.place w.number w.fork w.there w.is in
+    let down : Descends early_wait.history w.number 1 = subst (λ (k : ℕ). Descends early_wait.history k 1) (sym number) itself in
+    omega (arith, w.told 1 1 0 1 down (batch 0 (published 1 1 (Set a_label c_label read)) refl))
+
+no_fork : (call other : Call) → call ≡ Task (Fork b_pid) → call ≡ other → (other ≡ Task (Fork b_pid) → ⊥) → ⊥
+no_fork call other fork is none = none (sym is ∙ fork)
+
+entry_number : (place number : ℕ) (fork : Entry) → Stands early_entry.history place fork → IsForkOf fork number b_pid → number ≡ 1
+entry_number zero number fork at is = same_child number 1 (sym is.1 ∙ sym (ap (λ (e : Entry). e.reply) (same_some _ fork at)))
+entry_number (suc zero) number fork at is =
+    absurd (no_fork fork.call (Task Take) is.0 (sym (ap (λ (e : Entry). e.call) (same_some _ fork at))) (λ e. cc))
+entry_number (suc (suc zero)) number fork at is =
+    absurd (no_fork fork.call (Task Exit) is.0 (sym (ap (λ (e : Entry). e.call) (same_some _ fork at))) (λ e. cc))
+entry_number (suc (suc (suc n))) number fork at is = cc
+
+waiter : IsLegal early_entry → ⊥
+waiter legal =
+    let w = legal.fresh.waited 0 (asked_in 0 2 0 (Wait b_pid)) b_pid refl refl in
+    let number = entry_number w.place w.number w.fork w.there w.is in
+    let down : Descends early_entry.history w.number 1 = subst (λ (k : ℕ). Descends early_entry.history k 1) (sym number) itself in
+    omega (arith, w.behind 2 1 (entered 1 1 0 Exit Done) (entered 0 3 0 Take (RefusedBy Again)) down refl refl refl (omega arith))
+
+fork : IsLegal early_child → ⊥
+fork legal =
+    omega (
+      arith,
+      legal.calls.behind_fork 1 0 (entered 0 1 0 (Fork b_pid) (Child 1)) (entered 1 1 0 Take (RefusedBy NoSuchTask)) b_pid refl (refl, refl) refl,
+    )
+
+batches : IsLegal swapped_batches → ⊥
+batches legal =
+    omega (
+      arith,
+      legal.fresh.seen 0 1 1 2 2 0 1 (batch 1 (published 0 1 (Set a_label c_label read)) refl) (batch 0 (published 0 2 (Revoke a_label)) refl) (omega arith),
+    )
+
+privilege : IsLegal unprivileged_batch → ⊥
+privilege legal = let wrong : ◌≡◌ {A = Bool} false true = legal.batches 0 (published 0 2 (Set a_label c_label read)) refl in cc
+
+version : IsLegal falling_version → ⊥
+version legal =
+    omega (
+      arith,
+      legal.entries.rising 1 2 (entered 0 3 1 Take (RefusedBy Again)) (entered 1 1 0 Take (RefusedBy Again)) refl refl (omega arith),
+    )
+
+lines : IsLegal swapped_lines → ⊥
+lines legal =
+    by (legal.calls.listed 0 1 (asked_in 0 2 0 (Ask without_rule)) (asked_in 0 1 0 (Ask without_rule)) refl refl (omega arith))
+  where
+    by : IsBefore (asked_in 0 2 0 (Ask without_rule)) (asked_in 0 1 0 (Ask without_rule)) → ⊥
+    by (inl below) = omega (arith, below)
+    by (inr same) = omega (arith, same.1)
+
+task : IsLegal unknown_task → ⊥
+task legal = by (legal.calls.of_tasks 1 1 0 0 (asked 0 (asked_in 1 1 0 (Ask without_rule)) refl)).1
+  where
+    by : {pid : _} → IsNumberOf [] 1 pid → ⊥
+    by (inl is) = omega (arith, is.0)
+    by (inr has) = let at = has.2 in cc
+
+number : IsLegal missing_number → ⊥
+number legal = let wrong : ◌≡◌ {A = ℕ} 0 1 = legal.calls.once 0 1 in omega (arith, wrong)
+
+left_out : FitsScript (take_line ∷ []) line_left_out → ⊥
+left_out fits = let wrong : ◌≡◌ {A = ℕ} 0 1 = (fits.tasks (record { 0 = 0 }) (omega arith)).many in omega (arith, wrong)
+
+twice : FitsScript (take_line ∷ []) line_twice → ⊥
+twice fits =
+    let own = fits.tasks (record { 0 = 0 }) (omega arith) in
+    let first : 0 ≡ own.number = own.one 0 (inl (refl, refl)) in
+    let wrong : ◌≡◌ {A = ℕ} 2 1 = ap (call_count line_twice) first ∙ own.many in
+    omega (arith, wrong)
+
+other_line : (number : ℕ) → IsRecorded other_call number take_line → ⊥
+other_line number (batch_of i b at own seq line) = cc
+other_line number (entry_of zero e at own seq line) =
+    let call : Task Exit ≡ e.call = ap (λ (x : Entry). x.call) (same_some _ e at) in
+    let line_is : Task Take ≡ e.call = same_some (Task Take) e.call line in
+    let wrong : Task Take ≡ Task Exit = line_is ∙ sym call in
+    cc
+other_line number (entry_of (suc i) e at own seq line) = cc
+other_line number (asked_of i a at own seq line) = cc
+
+other : FitsScript (take_line ∷ []) other_call → ⊥
+other fits =
+    let own = fits.tasks (record { 0 = 0 }) (omega arith) in
+    other_line own.number (own.recorded 0 take_line refl refl)
+
+pub refused : RefusedRecords
+refused = record {
+  ask = ask;
+  answer = answer;
+  child = child;
+  wait = wait;
+  waiter = waiter;
+  fork = fork;
+  batches = batches;
+  privilege = privilege;
+  version = version;
+  lines = lines;
+  task = task;
+  number = number;
+  left_out = left_out;
+  twice = twice;
+  other = other;
+}

@@ -1,0 +1,167 @@
+use Rattle.std.specs.Prelude.{ℕ, List, [], ◌∷◌, ◌++◌, true, false, codes}
+use Rattle.smack_base.specs.declared.ids.LabelId.{LabelId}
+use Rattle.smack_base.specs.declared.ids.Pid.{Pid}
+use Rattle.smack_base.specs.declared.cap.Cap.TheVariants.{MacAdmin}
+use Rattle.smack_base.specs.declared.rule_op.RuleOp.{RuleOp}
+use Rattle.smack_base.specs.declared.rule_op.RuleOp.TheVariants.{Set, Revoke}
+use Rattle.text_spec.specs.Names.{predefined}
+use Rattle.rules_spec.specs.AskedModes.{read}
+use Rattle.rules_spec.specs.declared.Batch.{Batch}
+use Rattle.rules_spec.specs.declared.Verdict.{Verdict}
+use Rattle.script_spec.specs.Lines.{ScriptLine}
+use Rattle.world_spec.specs.declared.Call.TheVariants.{Task}
+use Rattle.world_spec.specs.declared.TaskCall.{TaskCall}
+use Rattle.world_spec.specs.declared.TaskCall.TheVariants.{Fork, Exit, DropCap, Take}
+use Rattle.world_spec.specs.declared.Reply.{Reply}
+use Rattle.world_spec.specs.declared.Reply.TheVariants.{Ok as Done, Child, Refused as RefusedBy}
+use Rattle.world_spec.specs.declared.Why.TheVariants.{NoSuchTask, Again}
+use Rattle.world_spec.specs.declared.Entry.{Entry}
+use Rattle.record_spec.specs.declared.AskedLine.{AskedLine}
+use Rattle.record_spec.specs.declared.AskedWhat.{AskedWhat}
+use Rattle.record_spec.specs.declared.AskedWhat.TheVariants.{Ask, Wait}
+use Rattle.record_spec.specs.declared.RunRecord.{RunRecord}
+use Rattle.legal_spec.specs.Legal.{IsLegal}
+use Rattle.legal_spec.specs.Fits.{FitsScript}
+
+-- two labels that the table has behind the predefined ones
+abbrev pub a_label : LabelId
+a_label = record { 0 = 5 }
+
+abbrev pub c_label : LabelId
+c_label = record { 0 = 6 }
+
+-- a child
+abbrev pub b_pid : Pid
+b_pid = record { 0 = 1 }
+
+-- a record of two tasks and two labels
+abbrev pub record_of : List Batch → List Entry → List AskedLine → RunRecord
+record_of journal history asked = record {
+  labels = predefined ++ codes "A" ∷ codes "C" ∷ [];
+  names = codes "init" ∷ codes "B" ∷ [];
+  journal = journal;
+  history = history;
+  asked = asked;
+}
+
+abbrev pub published : ℕ → ℕ → RuleOp → Batch
+published task seq op = record { task = task; seq = seq; ops = op ∷ [] }
+
+abbrev pub entered : ℕ → ℕ → ℕ → TaskCall → Reply → Entry
+entered task seq version call reply = record {
+  task = task;
+  seq = seq;
+  call = Task call;
+  version = version;
+  checks = [];
+  reply = reply;
+}
+
+abbrev pub asked_in : ℕ → ℕ → ℕ → AskedWhat → AskedLine
+asked_in task seq version what = record { task = task; seq = seq; version = version; what = what }
+
+-- reading is allowed by a rule; without one it is denied
+abbrev pub by_rule : Verdict
+by_rule = record { allowed = true; case = 6; over = 0; subject = a_label; object = c_label; modes = read }
+
+abbrev pub without_rule : Verdict
+without_rule = record { allowed = false; case = 7; over = 0; subject = a_label; object = c_label; modes = read }
+
+-- an ask in a version older than that of its task's own batch
+abbrev pub stale_ask : RunRecord
+stale_ask = record_of (published 0 1 (Set a_label c_label read) ∷ []) [] (asked_in 0 2 0 (Ask without_rule) ∷ [])
+
+-- an ask with another answer than the ordered cases give in its version
+abbrev pub wrong_answer : RunRecord
+wrong_answer = record_of [] [] (asked_in 0 1 0 (Ask by_rule) ∷ [])
+
+-- a child that asks in a version older than that of the fork that made it
+abbrev pub stale_child : RunRecord
+stale_child = record_of (published 0 1 (Set a_label c_label read) ∷ []) (entered 0 2 1 (Fork b_pid) (Child 1) ∷ [])
+    (asked_in 1 1 0 (Ask without_rule) ∷ [])
+
+-- a wait in a version older than the one that the child reached by its batch
+abbrev pub early_wait : RunRecord
+early_wait = record_of (published 1 1 (Set a_label c_label read) ∷ []) (entered 0 1 0 (Fork b_pid) (Child 1) ∷ [])
+    (asked_in 0 2 0 (Wait b_pid) ∷ [])
+
+-- an object call of a waiter that stands before one of the task that it waited for
+abbrev pub early_entry : RunRecord
+early_entry = record_of [] (entered 0 1 0 (Fork b_pid) (Child 1) ∷ entered 0 3 0 Take (RefusedBy Again) ∷ entered 1 1 0 Exit Done ∷ [])
+    (asked_in 0 2 0 (Wait b_pid) ∷ [])
+
+-- an object call of a child before the fork that made it
+abbrev pub early_child : RunRecord
+early_child = record_of [] (entered 1 1 0 Take (RefusedBy NoSuchTask) ∷ entered 0 1 0 (Fork b_pid) (Child 1) ∷ []) []
+
+-- batches that stand in another order than their task made them
+abbrev pub swapped_batches : RunRecord
+swapped_batches = record_of (published 0 2 (Revoke a_label) ∷ published 0 1 (Set a_label c_label read) ∷ []) [] []
+
+-- a batch of a task that gave CAP_MAC_ADMIN up
+abbrev pub unprivileged_batch : RunRecord
+unprivileged_batch = record_of (published 0 2 (Set a_label c_label read) ∷ []) (entered 0 1 0 (DropCap MacAdmin) Done ∷ []) []
+
+-- an object call in a version below that of the one before it, which another task made
+abbrev pub falling_version : RunRecord
+falling_version = record_of (published 0 2 (Set a_label c_label read) ∷ [])
+    (entered 0 1 0 (Fork b_pid) (Child 1) ∷ entered 0 3 1 Take (RefusedBy Again) ∷ entered 1 1 0 Take (RefusedBy Again) ∷ []) []
+
+-- asked lines that stand in another order than their task asked them
+abbrev pub swapped_lines : RunRecord
+swapped_lines = record_of [] [] (asked_in 0 2 0 (Ask without_rule) ∷ asked_in 0 1 0 (Ask without_rule) ∷ [])
+
+-- a call of a task that nobody made
+abbrev pub unknown_task : RunRecord
+unknown_task = record_of [] [] (asked_in 1 1 0 (Ask without_rule) ∷ [])
+
+-- a call number that is left out
+abbrev pub missing_number : RunRecord
+missing_number = record_of [] (entered 0 2 0 Take (RefusedBy Again) ∷ []) []
+
+-- one line: init take
+abbrev pub take_line : ScriptLine
+take_line = record {
+  task = 0;
+  seq = 1;
+  line = 1;
+  words = record { at = 5; bytes = codes "take" } ∷ [];
+  text = record { at = 10; bytes = [] };
+}
+
+abbrev pub one_task : List Entry → RunRecord
+one_task history = record {
+  labels = predefined;
+  names = codes "init" ∷ [];
+  journal = [];
+  history = history;
+  asked = [];
+}
+
+-- a record without the line, one that has it twice, and one that has another call in its place
+abbrev pub line_left_out : RunRecord
+line_left_out = one_task []
+
+abbrev pub line_twice : RunRecord
+line_twice = one_task (entered 0 1 0 Take (RefusedBy Again) ∷ entered 0 2 0 Take (RefusedBy Again) ∷ [])
+
+abbrev pub other_call : RunRecord
+other_call = one_task (entered 0 1 0 Exit Done ∷ [])
+
+-- What the definitions refuse.
+pub record RefusedRecords : Type 0 where
+  pub ask : IsLegal stale_ask → ⊥
+  pub answer : IsLegal wrong_answer → ⊥
+  pub child : IsLegal stale_child → ⊥
+  pub wait : IsLegal early_wait → ⊥
+  pub waiter : IsLegal early_entry → ⊥
+  pub fork : IsLegal early_child → ⊥
+  pub batches : IsLegal swapped_batches → ⊥
+  pub privilege : IsLegal unprivileged_batch → ⊥
+  pub version : IsLegal falling_version → ⊥
+  pub lines : IsLegal swapped_lines → ⊥
+  pub task : IsLegal unknown_task → ⊥
+  pub number : IsLegal missing_number → ⊥
+  pub left_out : FitsScript (take_line ∷ []) line_left_out → ⊥
+  pub twice : FitsScript (take_line ∷ []) line_twice → ⊥
+  pub other : FitsScript (take_line ∷ []) other_call → ⊥
