@@ -15,3 +15,4 @@ pub mod Waits
 pub mod Listed
 pub mod Fitting
 pub mod RefusedRecords
+pub mod Interleaved

@@ -1,1 +1,2 @@
 pub mod RefusedRecords
+pub mod Interleaved

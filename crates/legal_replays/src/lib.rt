@@ -4,6 +4,7 @@
 //! of legal_spec. A law is the contract of a function without a body.
 #![tactic(auto)]
 
+ghost use Rattle.legal_replays.specs.Interleaved.{OtherOrder};
 ghost use Rattle.legal_replays.specs.RefusedRecords.{RefusedRecords};
 ghost use Rattle.legal_spec.specs.Laws.{ReplayedIsLegal};
 
@@ -15,4 +16,9 @@ pub fn replayed_records_are_legal()
 /// Records that are not legal, and records that do not fit a script.
 pub fn records_that_are_refused()
     ensures { RefusedRecords }
+{}
+
+/// A record in another order than the replay's that is legal for its script.
+pub fn another_order_is_legal()
+    ensures { OtherOrder }
 {}
