@@ -1,6 +1,9 @@
 pub mod Indexes
 pub mod Growing
 pub mod Filling
+pub mod Worlds
+pub mod OwnCreds
 pub mod Tasks
+pub mod Turning
 pub mod Counts
 pub mod Texts

@@ -1,5 +1,5 @@
 use Rattle.std.proofs.Common.{◌≡◌, ℕ, ◌+◌, ◌-◌, ◌<◌, ◌≤◌, true, false, List, [], ◌∷◌, length, refl, subst, arith, Option, Some, None, if◌then◌else◌}
-use Rattle.std.specs.Prelude.{Result, Ok, Err, map, nat_lt, nat_le, ◌&&◌}
+use Rattle.std.specs.Prelude.{Result, Ok, Err, IfOk, map, nat_lt, nat_le, ◌&&◌}
 use Rattle.std.proofs.lemmas.List.{length-map}
 use Rattle.std.proofs.lemmas.Bool.{and_parts}
 use Rattle.std.proofs.lemmas.Bool.Decides.{nat_tests}
@@ -12,21 +12,24 @@ use Rattle.text_spec.specs.declared.RuleForm.TheVariants as form
 use Rattle.text_spec.specs.Texts.{Placed}
 use Rattle.text_spec.specs.Names.{place_of, has_name, id_of}
 use Rattle.text_spec.specs.RuleTexts.{rule_answers, subject_answers, all_words, label_answers, only_word, all_good, with_first}
-use Rattle.std.specs.Option.{option_map, option_or}
 use Rattle.file_spec.specs.declared.RuleFile.{RuleFile}
-use Rattle.file_spec.specs.declared.SelfFile.{SelfFile}
+use Rattle.file_spec.specs.declared.SelfFile.TheVariants.{LoadSelf2, LoadSelf, RelabelSelf}
+use Rattle.file_spec.specs.declared.SmackFile.{SmackFile}
 use Rattle.file_spec.specs.declared.SmackFile.TheVariants.{Rule, Own}
 use Rattle.file_spec.specs.declared.RuleFile.TheVariants as file
 use Rattle.file_spec.specs.declared.Refusal.{Refusal}
 use Rattle.file_spec.specs.declared.Refusal.TheVariants as refusal
 use Rattle.file_spec.specs.declared.Compiled.{Compiled}
 use Rattle.file_spec.specs.declared.Compiled.TheVariants.{Rules, SelfRules, Relabels}
-use Rattle.file_spec.specs.Writes.{self_file, NamedWrite, NamedSet, NamedChange, NamedRevoke, NamedClear, NamedAdd, NamedAmbient, NamedPtrace, NamedLogging, rule_file, line_of, set_write, change_write, digit_in, digit_or_fault, with_word, number_in, on_good, label_in, write_answers, writes_of_text}
-use Rattle.file_spec.specs.Files.{by_id, by_ids, op_of, with_first_op, ops_of, ops_of_writes, if_accepted, compiled_text, compiled_in, compiled}
+use Rattle.file_spec.specs.Writes.{NamedWrite, NamedSet, NamedChange, NamedRevoke, NamedClear, NamedAdd, NamedAmbient, NamedPtrace, NamedLogging, file_of, read_as, line_of, set_write, change_write, digit_in, digit_or_fault, with_word, number_in, on_good, label_in, write_answers, writes_of_text}
+use Rattle.file_spec.specs.Files.{becomes, by_id, by_ids, op_of, with_first_op, ops_of, ops_of_writes, if_accepted, compiled_text, compiled_in, compiled}
+use Rattle.world_spec.specs.declared.Call.{Call}
 use Rattle.rule_word.specs.Layout.{IsId, IsPackable}
 use Rattle.live_table.specs.Lists.{Has, here, there}
 use Rattle.smack_kernel.specs.Tasks.{TaskValue}
-use Rattle.smack_kernel.specs.Answers.{ArePackedOps, IsRefused, IsTextRefused}
+use Rattle.smack_kernel.specs.Answers.{ArePackedOps, IsRefused, IsTextRefused, written_call, IsOwnWritten, IsWritten}
+use Rattle.smack_kernel.specs.declared.kernel.Written.{Written}
+use Rattle.smack_kernel.specs.declared.kernel.Written.TheVariants as written
 use Rattle.smack_kernel.proofs.Counts.{rules_few, subjects_few, labels_few}
 
 -- a refusal of a text, and not of its writer or its journal
@@ -207,35 +210,42 @@ answers_few file.Ambient text l = omega arith
 answers_few file.Ptrace text l = omega arith
 answers_few file.Logging text l = omega arith
 
--- what a text becomes can be held by a batch, and it is refused for itself alone
+-- what a text becomes can be held by a batch, where it is one, and it is refused for itself alone
 abbrev pub GoodCompiled : Result Compiled Refusal → Type 0
 GoodCompiled (Ok (Rules ops)) = ArePackedOps ops
-GoodCompiled (Ok (SelfRules pairs)) = ⊥
-GoodCompiled (Ok (Relabels ids)) = ⊥
+GoodCompiled (Ok (SelfRules pairs)) = Unit {0}
+GoodCompiled (Ok (Relabels ids)) = Unit {0}
 GoodCompiled (Err f) = IsTextual f
 
+good_becomes : (file : SmackFile) (ops : List RuleOp) → ArePackedOps ops → GoodCompiled (Ok (becomes file ops))
+good_becomes (Rule file) ops p = p
+good_becomes (Own LoadSelf2) ops p = tt
+good_becomes (Own LoadSelf) ops p = tt
+good_becomes (Own RelabelSelf) ops p = tt
+
 module _ (table : List (List ℕ)) (few : length table ≤ 65535) where
-  writes_good : (f : RuleFile) (text : List ℕ) (n : ℕ) → n < 65536 → (r : Result (List NamedWrite) BadLine) → GoodWrites n r
-      → GoodCompiled (if_accepted (Rule f) (ops_of_writes table text r))
-  writes_good f text n short (Err b) p = tt
-  writes_good f text n short (Ok ws) p = by (ops_of table text ws) (ops_good table few text ws p.small)
+  writes_good : (file : SmackFile) (text : List ℕ) (n : ℕ) → n < 65536 → (r : Result (List NamedWrite) BadLine)
+      → GoodWrites n r → GoodCompiled (if_accepted file (ops_of_writes table text r))
+  writes_good file text n short (Err b) p = tt
+  writes_good file text n short (Ok ws) p = by (ops_of table text ws) (ops_good table few text ws p.small)
     where
-      by : (r : Result (List RuleOp) Refusal) → GoodOps (length ws) r → GoodCompiled (if_accepted (Rule f) r)
+      by : (r : Result (List RuleOp) Refusal) → GoodOps (length ws) r → GoodCompiled (if_accepted file r)
       by (Err e) q = q
-      by (Ok ops) q = (let c = q.count in let d = p.count in omega arith, q.packed)
+      by (Ok ops) q = good_becomes file ops (let c = q.count in let d = p.count in omega arith, q.packed)
 
-  in_good : (f : Option RuleFile) (own : Option SelfFile) (text : List ℕ) → own ≡ None
-      → GoodCompiled (compiled_in table (option_or (option_map (λ x. Rule x) f) (option_map (λ x. Own x) own)) text)
-  in_good None own text none = rw none tt
-  in_good (Some f) own text none = (elim (nat_lt 65536 (length text)) as (λ t. nat_lt 65536 (length text) ≡ t → GoodCompiled (if t then Err refusal.TooLong else compiled_text table (Rule f) text)) [
-    | true ↦ λ e. tt
-    | false ↦ λ e. let short : length text ≤ 65536 = grind (arith, nat_tests) in
-        writes_good f text (length (write_answers f text)) (answers_few f text short) (writes_of_text f text) (all_small (write_answers f text) (answers_small f text))
-  ]) refl
+  in_good : (file : Option SmackFile) (text : List ℕ) → GoodCompiled (compiled_in table file text)
+  in_good None text = tt
+  in_good (Some file) text = (elim (nat_lt 65536 (length text)) as (λ t. nat_lt 65536 (length text) ≡ t
+      → GoodCompiled (if t then Err refusal.TooLong else compiled_text table file text)) [
+        | true ↦ λ e. tt
+        | false ↦ λ e. let short : length text ≤ 65536 = grind (arith, nat_tests) in
+            writes_good file text (length (write_answers (read_as file) text)) (answers_few (read_as file) text short)
+            (writes_of_text (read_as file) text)
+            (all_small (write_answers (read_as file) text) (answers_small (read_as file) text))
+      ]) refl
 
-  -- the text of a file that is none of the writing task
-  pub compiled_good : (name text : List ℕ) → self_file name ≡ None → GoodCompiled (compiled table name text)
-  compiled_good name text none = in_good (rule_file name) (self_file name) text none
+  pub compiled_good : (name text : List ℕ) → GoodCompiled (compiled table name text)
+  compiled_good name text = in_good (file_of name) text
 
 -- a refusal of a text is a refused call
 pub text_refused : (labels : List (List ℕ)) (v w : TaskValue) (name text : List ℕ) (version : ℕ) (fault : Refusal)
@@ -247,3 +257,14 @@ text_refused labels v w name text version (refusal.BadLine bad) t e r = (e, r)
 text_refused labels v w name text version (refusal.UnknownLabel line) t e r = (e, r)
 text_refused labels v w name text version refusal.NotPrivileged t e r = absurd t
 text_refused labels v w name text version (refusal.JournalFull rows) t e r = absurd t
+
+-- a text that is an object call is written by it
+pub own_written : {E : Type 0} (labels : List (List ℕ)) (v w : TaskValue) (name text : List ℕ) (call : Call)
+    → written_call (compiled labels name text) ≡ Some call → (r : Result Written E) → IfOk r (IsOwnWritten v w call)
+    → IfOk r (IsWritten labels v w name text)
+own_written labels v w name text call is (Ok (written.Batch version)) p = absurd p
+own_written labels v w name text call is (Ok (written.Entry e)) p = (p.0, (call, is, p.1))
+own_written labels v w name text call is (Ok (written.Refused version fault)) p = absurd p
+own_written labels v w name text call is (Ok written.TrailFull) p = (p, (call, is))
+own_written labels v w name text call is (Ok written.SeqFull) p = p
+own_written labels v w name text call is (Err e) p = tt

@@ -1,6 +1,7 @@
-use Rattle.std.specs.Prelude.{◌≡◌, ℕ, ◌+◌, ◌<◌, ◌≤◌, ◌∷◌, [], List, length, Some, Ok, Err, true, false}
+use Rattle.std.specs.Prelude.{◌≡◌, ℕ, ◌+◌, ◌<◌, ◌≤◌, ◌∷◌, [], List, length, Option, Some, None, Result, Ok, Err, Bool, true, false}
 use Rattle.smack_base.specs.declared.rule_op.RuleOp.{RuleOp}
 use Rattle.smack_base.specs.declared.ids.LabelId.{LabelId}
+use Rattle.smack_base.specs.declared.ids.Pid.{Pid}
 use Rattle.smack_base.specs.declared.modes.Modes.{Modes}
 use Rattle.smack_base.specs.declared.cap.Cap.TheVariants.{MacAdmin}
 use Rattle.rules_spec.specs.declared.Batch.{Batch}
@@ -9,9 +10,15 @@ use Rattle.rules_spec.specs.Cases.{verdict_of_cases}
 use Rattle.rules_spec.specs.Creds.{is_effective}
 use Rattle.file_spec.specs.declared.Refusal.{Refusal}
 use Rattle.file_spec.specs.declared.Refusal.TheVariants as refusal
+use Rattle.file_spec.specs.declared.Compiled.{Compiled}
 use Rattle.file_spec.specs.declared.Compiled.TheVariants.{Rules}
+use Rattle.file_spec.specs.declared.Compiled.TheVariants as compiles
 use Rattle.file_spec.specs.Files.{compiled}
+use Rattle.world_spec.specs.declared.Call.{Call}
+use Rattle.world_spec.specs.declared.Call.TheVariants.{Task, Tree}
+use Rattle.world_spec.specs.declared.TaskCall.TheVariants.{Fork, Exit, Relabel, DropCap, SelfRules, Relabels, Kill, Take, TraceRead, TraceAttach}
 use Rattle.world_spec.specs.declared.Entry.{Entry}
+use Rattle.world_spec.specs.declared.Reply.TheVariants.{Child}
 use Rattle.world_spec.specs.Worlds.{world_first}
 use Rattle.rule_word.specs.Layout.{IsPackable}
 use Rattle.live_table.specs.Lists.{Has}
@@ -19,11 +26,14 @@ use Rattle.live_table.specs.Batches.{rows_of}
 use Rattle.live_table.specs.Core.{row_count}
 use Rattle.live_table.specs.Machines.{LegalFrom, last_version}
 use Rattle.world_spec.specs.Replays.{AreSteps}
-use Rattle.smack_kernel.specs.Histories.{world_means}
+use Rattle.smack_world.specs.Stepping.{most_entries}
+use Rattle.smack_kernel.specs.Histories.{world_means, child_of}
 use Rattle.smack_kernel.specs.Growth.{Publishes, batch_of}
-use Rattle.smack_kernel.specs.Tasks.{TaskValue, Does, Answers, most_calls}
+use Rattle.smack_kernel.specs.Tasks.{TaskValue, Does, Stays, Answers, Calls, Starts, most_calls}
 use Rattle.smack_kernel.specs.declared.kernel.Asked.{Asked}
 use Rattle.smack_kernel.specs.declared.kernel.Asked.TheVariants as asked
+use Rattle.smack_kernel.specs.declared.kernel.Called.{Called}
+use Rattle.smack_kernel.specs.declared.kernel.Called.TheVariants as called
 use Rattle.smack_kernel.specs.declared.kernel.Written.{Written}
 use Rattle.smack_kernel.specs.declared.kernel.Written.TheVariants as written
 
@@ -37,10 +47,46 @@ IsAsked v w s o m (asked.Verdict version verdict) =
     (v.made < most_calls) × Answers v w version × (verdict ≡ verdict_of_cases (ruling w.journal) s o m)
 IsAsked v w s o m asked.SeqFull = IsSeqFull v w
 
+-- whether the call is a fork
+abbrev pub is_fork : Call → Bool
+is_fork (Task (Fork pid)) = true
+is_fork (Task Exit) = false
+is_fork (Task (Relabel l)) = false
+is_fork (Task (DropCap cap)) = false
+is_fork (Task (SelfRules rules)) = false
+is_fork (Task (Relabels labels)) = false
+is_fork (Task (Kill pid sig)) = false
+is_fork (Task Take) = false
+is_fork (Task (TraceRead pid)) = false
+is_fork (Task (TraceAttach pid)) = false
+is_fork (Tree call) = false
+
+-- the history has as many entries as it may, and the task makes none
+abbrev pub IsTrailFull : TaskValue → TaskValue → Type 0
+IsTrailFull v w = (v.made < most_calls) × Stays v w × (length w.history ≡ most_entries)
+
+-- an object call is made; where the history or the count of calls is full it comes back
+abbrev pub IsCalled : TaskValue → TaskValue → Call → Called → Type 0
+IsCalled v w call (called.Entry r) = (v.made < most_calls) × Calls v w call r
+IsCalled v w call (called.TrailFull back) = IsTrailFull v w × (back ≡ call)
+IsCalled v w call (called.SeqFull back) = IsSeqFull v w × (back ≡ call)
+
+-- a fork is made: the child is there exactly where the reply is its number
+abbrev pub IsForked : TaskValue → TaskValue → Pid → Called → Option TaskValue → Type 0
+IsForked v w pid (called.Entry r) None =
+    (v.made < most_calls) × Calls v w (Task (Fork pid)) r × (child_of r.reply ≡ None)
+IsForked v w pid (called.Entry r) (Some c) =
+    (v.made < most_calls) × Calls v w (Task (Fork pid)) r × (r.reply ≡ Child c.number) × Starts w c c.number
+IsForked v w pid (called.TrailFull back) None = IsTrailFull v w × (back ≡ Task (Fork pid))
+IsForked v w pid (called.TrailFull back) (Some c) = ⊥
+IsForked v w pid (called.SeqFull back) None = IsSeqFull v w × (back ≡ Task (Fork pid))
+IsForked v w pid (called.SeqFull back) (Some c) = ⊥
+
 -- a batch of a text is published: it ends the seen journal, and the index stands for it
 pub record Wrote (v w : TaskValue) (ops : List RuleOp) (version : ℕ) : Type 0 where
-  pub does : Does v w (batch_of v.number (v.made + 1) ops ∷ [])
+  pub does : Does v w (batch_of v.number (v.made + 1) ops ∷ []) []
   pub made : w.made ≡ v.made + 1
+  pub creds : w.creds ≡ v.creds
   pub now : version ≡ w.version
   pub whole : w.version ≡ length w.journal
   pub publishes : Publishes v.number v.ended v.journal w.journal v.history w.history (v.made + 1) ops v.creds
@@ -58,7 +104,17 @@ IsOpsWritten v w ops (written.Refused version (refusal.JournalFull rows)) =
     Answers v w version × (is_effective v.creds MacAdmin (ruling w.journal) ≡ true)
     × (rows ≡ rows_of w.journal) × (row_count < rows + length ops + 1)
 IsOpsWritten v w ops (written.Refused version fault) = ⊥
+IsOpsWritten v w ops (written.Entry r) = ⊥
+IsOpsWritten v w ops written.TrailFull = ⊥
 IsOpsWritten v w ops written.SeqFull = ⊥
+
+-- what came of a good text that is an object call
+abbrev pub IsOwnWritten : TaskValue → TaskValue → Call → Written → Type 0
+IsOwnWritten v w call (written.Batch version) = ⊥
+IsOwnWritten v w call (written.Entry r) = (v.made < most_calls) × Calls v w call r
+IsOwnWritten v w call (written.Refused version fault) = ⊥
+IsOwnWritten v w call written.TrailFull = IsTrailFull v w
+IsOwnWritten v w call written.SeqFull = IsSeqFull v w
 
 -- a text is refused: the call is counted, and nothing else changes
 abbrev pub IsTextRefused : TaskValue → TaskValue → ℕ → Type 0
@@ -76,12 +132,24 @@ IsRefused labels v w file text version (refusal.JournalFull rows) =
     × (row_count < rows + length ops + 1)
 IsRefused labels v w file text version fault = (compiled labels file text ≡ Err fault) × IsTextRefused v w version
 
--- a text is written to a file of rules or settings
+-- the call that a text becomes which is written to a file of the writing task's own rules
+abbrev pub written_call : Result Compiled Refusal → Option Call
+written_call (Ok (compiles.Rules ops)) = None
+written_call (Ok (compiles.SelfRules rules)) = Some (Task (SelfRules rules))
+written_call (Ok (compiles.Relabels labels)) = Some (Task (Relabels labels))
+written_call (Err fault) = None
+
+-- A text is written: to a file of rules or settings it becomes a batch, and to one of the task's own rules it becomes an
+-- object call.
 abbrev pub IsWritten : List (List ℕ) → TaskValue → TaskValue → List ℕ → List ℕ → Written → Type 0
 IsWritten labels v w file text (written.Batch version) =
     (v.made < most_calls) × ((ops : List RuleOp) × (compiled labels file text ≡ Ok (Rules ops)) × Wrote v w ops version)
+IsWritten labels v w file text (written.Entry r) =
+    (v.made < most_calls) × ((call : Call) × (written_call (compiled labels file text) ≡ Some call) × Calls v w call r)
 IsWritten labels v w file text (written.Refused version fault) =
     (v.made < most_calls) × IsRefused labels v w file text version fault
+IsWritten labels v w file text written.TrailFull =
+    IsTrailFull v w × ((call : Call) × (written_call (compiled labels file text) ≡ Some call))
 IsWritten labels v w file text written.SeqFull = IsSeqFull v w
 
 -- a mark is counted, and answers the version of the index

@@ -4,10 +4,15 @@ use Rattle.smack_base.specs.declared.cap.Cap.TheVariants.{MacAdmin}
 use Rattle.rules_spec.specs.declared.Batch.{Batch}
 use Rattle.rules_spec.specs.Rulings.{ruling}
 use Rattle.rules_spec.specs.Creds.{Creds, is_effective}
+use Rattle.rules_spec.specs.declared.Verdict.{Verdict}
+use Rattle.world_spec.specs.declared.Call.{Call}
 use Rattle.world_spec.specs.declared.Entry.{Entry}
+use Rattle.world_spec.specs.declared.Reply.{Reply}
+use Rattle.world_spec.specs.Steps.{step}
+use Rattle.world_spec.specs.Replays.{replay_of}
 use Rattle.live_table.specs.Lists.{Begins, Has}
 use Rattle.live_table.specs.Batches.{batches_by, rows_of}
-use Rattle.live_table.specs.Machines.{entries_by}
+use Rattle.live_table.specs.Machines.{last_version, entries_by}
 use Rattle.live_table.specs.Core.{row_count}
 use Rattle.smack_kernel.specs.Histories.{world_means}
 use Rattle.smack_kernel.specs.declared.publishing.Published.{Published}
@@ -37,6 +42,28 @@ pub record Publishes (number : ℕ) (ended : List ℕ) (j j' : List Batch) (h h'
   pub grows : Grows number ended j j' h h' (batch_of number seq ops ∷ []) []
   pub effective : is_effective creds MacAdmin (ruling before) ≡ true
   pub fits : rows_of before + length ops + 1 ≤ row_count
+
+abbrev pub entry_of : ℕ → ℕ → Call → ℕ → List Verdict → Reply → Entry
+entry_of task seq call version checks reply =
+    record { task = task; seq = seq; call = call; version = version; checks = checks; reply = reply }
+
+-- One entry more, which ends the history. It is the step of its call in the world that the entries before it leave, in
+-- the version that the task looked at while it had the turn, which is not below that of the entry before.
+pub record Enters (number : ℕ) (ended : List ℕ) (j j' : List Batch) (h h' : List Entry) (e : Entry) (place : ℕ)
+    : Type 0 where
+  pub before : List Entry
+  pub is : h' ≡ before ++ e ∷ []
+  pub more : Begins before h
+  pub own_before : entries_by world_means number before ≡ entries_by world_means number h
+  pub grows : Grows number ended j j' h h' [] (e ∷ [])
+  pub at : place ≡ length h'
+  pub looked : List Batch
+  pub seen : Begins j' looked
+  pub all : Begins looked j
+  pub now : e.version ≡ length looked
+  pub checks : e.checks ≡ (step (replay_of looked before) (ruling looked) e.task e.call).checks
+  pub reply : e.reply ≡ (step (replay_of looked before) (ruling looked) e.task e.call).reply
+  pub recent : last_version world_means before ≤ e.version
 
 -- What writes are judged by in a version: whether CAP_MAC_ADMIN is effective there, and then whether the journal has
 -- room for their batch.

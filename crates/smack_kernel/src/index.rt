@@ -1,4 +1,4 @@
-ghost use Rattle.std.specs.Prelude.{◌≡◌, ◌≤◌, ◌<◌, ◌+◌, ◌++◌, ◌∷◌, List, [], length, OnOk, OnErr, IfOk};
+ghost use Rattle.std.specs.Prelude.{◌≡◌, ◌≤◌, ◌<◌, ◌+◌, ◌++◌, ◌∷◌, List, [], length, nat_lt, if◌then◌else◌, OnOk, OnErr, IfOk};
 ghost use Rattle.rules_spec.specs.declared.Batch.{Batch};
 ghost use Rattle.rule_fold.specs.Index.{StandsFor};
 ghost use Rattle.live_table.specs.Batches.{rows_of};
@@ -43,6 +43,15 @@ impl Index {
         self.rules.absorb(batch)?;
         self.rows += 1 + batch.ops.items().len() as u32;
         Ok(())
+    }
+
+    /// Takes the other index where that has the greater version.
+    pub(crate) fn keep_newer(&mut self, other: Index)
+        ensures { self.new ≡ (if nat_lt self.old.rules.version other.rules.version then other else self.old) }
+    {
+        if self.rules.version() < other.rules.version() {
+            *self = other;
+        }
     }
 }
 

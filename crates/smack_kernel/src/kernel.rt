@@ -1,12 +1,12 @@
 ghost use Rattle.std.specs.Prelude.{◌≡◌, ◌<◌, ◌+◌, length, false, IfOk, IfErr, OnOk, OnErr};
-ghost use Rattle.file_spec.specs.Writes.{self_file};
-ghost use Rattle.smack_kernel.specs.Tasks.{first_task, most_calls, Stays, Hears, Loads, LoadsOnce};
-ghost use Rattle.smack_kernel.specs.Answers.{ArePackedOps, IsAsked, IsOpsWritten, IsWritten, IsMarked, IsSeqFull, IsWhole, Closes};
+ghost use Rattle.smack_kernel.specs.Tasks.{first_task, most_calls, Stays, Hears, Adopts, Loads, LoadsOnce};
+ghost use Rattle.smack_kernel.specs.Answers.{ArePackedOps, IsAsked, is_fork, IsCalled, IsOpsWritten, IsOwnWritten, IsWritten, IsMarked, IsSeqFull, IsWhole, Closes};
 
 use crate::closed::Closed;
 use crate::index::{Index, look};
 use crate::publishing::{self, publish};
 use crate::task::{Notice, Task};
+use crate::turns::{Entered, Turned, enter};
 use crate::world_machine::WorldMachine;
 use file_spec::{Compiled, Refusal};
 use label_table::Labels;
@@ -21,6 +21,7 @@ use std::sync::Wait;
 use std::sync::ledger::Ledger;
 use step_count::Steps;
 use task_creds::Cred;
+use world_spec::{Call, TaskCall};
 
 /// How many calls a task makes at most.
 const MOST_CALLS: u32 = 1_048_575;
@@ -34,13 +35,29 @@ pub enum Asked {
     SeqFull,
 }
 
+/// What came of an object call.
+#[derive(Debug, Drop)]
+pub enum Called {
+    /// The call is an entry of the history.
+    Entry(Entered),
+    /// The history has 131,072 entries: the call was not made and is not counted, and comes back.
+    TrailFull(Call),
+    /// The task has made 1,048,575 calls; nothing changed, and the call comes back.
+    SeqFull(Call),
+}
+
 /// What came of a text that was written.
-#[derive(Clone, Copy, Debug, PartialEq, Eq)]
+#[derive(Debug, Drop)]
 pub enum Written {
     /// The writes are a batch, which makes this version.
     Batch { version: u32 },
+    /// The text is an object call of the writing task, which is an entry of the history.
+    Entry(Entered),
     /// The text was refused, in this version.
     Refused { version: u32, fault: Refusal },
+    /// The text is an object call, and the history has 131,072 entries: it was not made and is not
+    /// counted.
+    TrailFull,
     /// The task has made 1,048,575 calls; nothing changed.
     SeqFull,
 }
@@ -138,11 +155,55 @@ impl Kernel {
         })
     }
 
-    /// Writes a text to a file of rules or settings. A text that is none is refused at once, in the
-    /// version of the task's rules. Else the task waits for the pen and catches up; the text is
-    /// refused where the task lacks CAP_MAC_ADMIN in that version, and then where the journal has no
-    /// room; else its writes are published as one batch. Want of memory comes only before anything is
-    /// published, and such a call is not counted.
+    /// Makes an object call, which is no fork: the task waits for the turn, looks at the published
+    /// rows and catches up, and the world steps in that version; the step is one entry of the history.
+    /// A call that is denied or refused is an entry too. On want of memory there is no entry, and the
+    /// call comes back; such a call is not counted. That the turn is ever had is not promised.
+    pub fn call<R: Wait, L: Ledger>(
+        &self,
+        rt: &R,
+        alloc: Global,
+        task: &mut Task,
+        call: Call,
+        steps: &mut Steps<L>,
+    ) -> Result<Called, (AllocError, Call)>
+        requires table { task.old.table ≡ self.now.table }
+        requires plain { is_fork call ≡ false }
+        ensures same { (task.new.table ≡ task.old.table) × (task.new.number ≡ task.old.number) }
+        ensures called { IfOk result (IsCalled task.old task.new call) }
+        ensures back { IfErr result (λ e. (e.1 ≡ call) × Stays task.old task.new) }
+        ensures loads { Loads task.old task.new steps.old steps.new }
+        ensures once { OnOk result (LoadsOnce task.old task.new steps.old steps.new) }
+    {
+        if task.made >= MOST_CALLS {
+            return Ok(Called::SeqFull(call));
+        }
+        match enter(
+            rt,
+            alloc,
+            &self.table,
+            &mut task.seat,
+            &mut task.index,
+            &mut task.creds,
+            task.made,
+            call,
+            steps,
+        ) {
+            Ok(Turned::Entry(entered)) => {
+                task.made += 1;
+                Ok(Called::Entry(entered))
+            }
+            Ok(Turned::TrailFull(call)) => Ok(Called::TrailFull(call)),
+            Err(error) => Err(error),
+        }
+    }
+
+    /// Writes a text to a file. A text that its file does not take is refused at once, in the version
+    /// of the task's rules. For a file of rules or settings the task waits for the pen and catches up;
+    /// the text is refused where the task lacks CAP_MAC_ADMIN in that version, and then where the
+    /// journal has no room; else its writes are published as one batch. For a file of the task's own
+    /// rules the text is an object call. Want of memory comes only before anything is published or
+    /// entered, and such a call is not counted.
     pub fn write<R: Wait, L: Ledger>(
         &self,
         rt: &R,
@@ -152,8 +213,7 @@ impl Kernel {
         text: &[u8],
         steps: &mut Steps<L>,
     ) -> Result<Written, AllocError>
-        requires table { task.old.table ≡ self.now.table }
-        requires file { self_file file.now ≡ None }
+        requires { task.old.table ≡ self.now.table }
         ensures same { (task.new.table ≡ task.old.table) × (task.new.number ≡ task.old.number) }
         ensures written { IfOk result (IsWritten self.now.labels task.old task.new file.now text.now) }
         ensures stays { OnErr result (Stays task.old task.new) }
@@ -166,8 +226,12 @@ impl Kernel {
         prove!(self.labels.len() as usize <= Labels::LIMIT);
         match compile(alloc, &self.labels, file, text) {
             Ok(Compiled::Rules(ops)) => self.write_ops(rt, alloc, task, ops, steps),
-            Ok(Compiled::SelfRules(_)) => unreachable!(),
-            Ok(Compiled::Relabels(_)) => unreachable!(),
+            Ok(Compiled::SelfRules(rules)) => {
+                self.write_own(rt, alloc, task, TaskCall::SelfRules { rules }, steps)
+            }
+            Ok(Compiled::Relabels(labels)) => {
+                self.write_own(rt, alloc, task, TaskCall::Relabels { labels }, steps)
+            }
             Err(TextFault::Refused(fault)) => Ok(Kernel::refuse_text(task, fault)),
             Err(TextFault::Memory) => Err(AllocError),
         }
@@ -234,6 +298,31 @@ impl Kernel {
         }
     }
 
+    /// Makes the object call that a good text is.
+    fn write_own<R: Wait, L: Ledger>(
+        &self,
+        rt: &R,
+        alloc: Global,
+        task: &mut Task,
+        call: TaskCall,
+        steps: &mut Steps<L>,
+    ) -> Result<Written, AllocError>
+        requires table { task.old.table ≡ self.now.table }
+        requires plain { is_fork (Call.Task call) ≡ false }
+        ensures same { (task.new.table ≡ task.old.table) × (task.new.number ≡ task.old.number) }
+        ensures written { IfOk result (IsOwnWritten task.old task.new (Call.Task call)) }
+        ensures stays { OnErr result (Stays task.old task.new) }
+        ensures loads { Loads task.old task.new steps.old steps.new }
+        ensures once { OnOk result (LoadsOnce task.old task.new steps.old steps.new) }
+    {
+        match self.call(rt, alloc, task, Call::Task(call), steps) {
+            Ok(Called::Entry(entered)) => Ok(Written::Entry(entered)),
+            Ok(Called::TrailFull(_)) => Ok(Written::TrailFull),
+            Ok(Called::SeqFull(_)) => Ok(Written::SeqFull),
+            Err((fault, _)) => Err(fault),
+        }
+    }
+
     /// Numbers a call that does nothing: the version of the task's rules.
     pub fn mark(&self, task: &mut Task) -> Result<u32, SeqFull>
         requires { task.old.table ≡ self.now.table }
@@ -268,6 +357,24 @@ impl Kernel {
     {
         let Notice { notice } = note;
         self.table.hear(&mut task.seat, notice);
+    }
+
+    /// Adopts another task of the kernel, which ends: the task has then seen all that both had, and
+    /// its rules are those of the greater version. The other's calls are those of ended numbers of
+    /// this task. It takes no memory.
+    pub fn adopt(&self, task: &mut Task, child: Task)
+        requires { (task.old.table ≡ self.now.table) × (child.table ≡ self.now.table) }
+        ensures same { (task.new.table ≡ task.old.table) × (task.new.number ≡ task.old.number) }
+        ensures adopts { Adopts task.old child task.new }
+    {
+        let Task {
+            seat,
+            index,
+            made: _,
+            creds: _,
+        } = child;
+        self.table.adopt(&mut task.seat, seat);
+        task.index.keep_newer(index);
     }
 
     /// Ends the kernel: its labels, and all that was published and entered. The task is whole. On

@@ -15,14 +15,17 @@
 #![tactic(auto)]
 
 mod closed;
+mod creds;
 mod index;
 mod kernel;
 mod publishing;
 mod task;
+mod turns;
 mod world_machine;
 
 pub use closed::Closed;
 pub use file_spec::Refusal;
-pub use kernel::{Asked, Kernel, SeqFull, Written};
+pub use kernel::{Asked, Called, Kernel, SeqFull, Written};
 pub use step_count::Steps;
 pub use task::{Notice, Task};
+pub use turns::Entered;

@@ -1,5 +1,5 @@
 ghost use Rattle.std.specs.Prelude.{◌≡◌, ◌≤◌};
-ghost use Rattle.smack_kernel.specs.Tasks.{most_calls};
+ghost use Rattle.smack_kernel.specs.Tasks.{most_calls, IsSound};
 
 use crate::index::Index;
 use crate::world_machine::WorldMachine;
@@ -18,23 +18,14 @@ pub struct Task {
 }
 
 impl Model for Task {
-    ghost use Rattle.live_table.specs.Lists.{rest_of};
-    ghost use Rattle.smack_kernel.specs.Tasks.{TaskValue, IsTask};
+    ghost use Rattle.std.specs.Prelude.{◌≤◌};
+    ghost use Rattle.smack_kernel.specs.Tasks.{TaskValue, IsTask, task_of, most_calls};
 
     ghost Value = { TaskValue };
 
-    ghost view = { λ t. record {
-      table = t.seat.table;
-      number = t.seat.number;
-      made = t.made;
-      version = t.index.rules.version;
-      creds = t.creds;
-      ended = rest_of t.seat.view.numbers;
-      journal = t.seat.view.journal;
-      history = t.seat.view.history;
-    } };
+    ghost view = { λ t. task_of t.seat t.index.rules t.made t.creds };
 
-    ghost invariant = { λ t. IsTask t.seat t.index.rules t.index.rows t.made };
+    ghost invariant = { λ t. IsTask t.seat t.index.rules t.index.rows t.creds × (t.made ≤ most_calls) };
 }
 
 impl Task {
@@ -42,6 +33,7 @@ impl Task {
     pub fn made(&self) -> u32
         ensures made { result ≡ self.now.made }
         ensures limit { result ≤ most_calls }
+        ensures sound { IsSound self.now }
     {
         self.made
     }
@@ -68,12 +60,11 @@ pub struct Notice {
 }
 
 impl Model for Notice {
-    ghost use Rattle.std.specs.Prelude.{◌≡◌, []};
-    ghost use Rattle.smack_kernel.specs.Tasks.{ToldValue};
+    ghost use Rattle.smack_kernel.specs.Tasks.{ToldValue, IsTold};
 
     ghost Value = { ToldValue };
 
     ghost view = { λ n. record { table = n.notice.table; journal = n.notice.view.journal; history = n.notice.view.history } };
 
-    ghost invariant = { λ n. n.notice.view.numbers ≡ [] };
+    ghost invariant = { λ n. IsTold n.notice };
 }

@@ -1,11 +1,16 @@
-ghost use Rattle.std.specs.Prelude.{◌≡◌, [], IfOk};
+ghost use Rattle.std.specs.Prelude.{◌≡◌, [], List, IfOk, IfErr, OnOk, OnErr};
+ghost use Rattle.rules_spec.specs.declared.Batch.{Batch};
+ghost use Rattle.rule_fold.specs.Index.{ruling_of, StandsFor};
 ghost use Rattle.world_spec.specs.Worlds.{world_first};
+ghost use Rattle.world_spec.specs.Replays.{StandsOver};
+ghost use Rattle.smack_world.specs.Stepping.{IsStepped};
 
 use live_table::Machine;
-use smack_world::World;
+use rule_fold::RuleIndex;
+use smack_world::{Stepped, World};
 use std::alloc::{AllocError, Global};
 use std::marker::Model;
-use world_spec::{Entry, Trail};
+use world_spec::{Call, Entry, Trail};
 
 /// The world as the machine of a table: its trail is the history.
 #[derive(Drop)]
@@ -41,6 +46,24 @@ impl WorldMachine {
         Ok(WorldMachine {
             world: World::new(alloc)?,
         })
+    }
+
+    /// Takes a call of a task in the version of `rules`, as the world does.
+    pub fn step(
+        &mut self,
+        alloc: Global,
+        rules: &RuleIndex,
+        task: u16,
+        seq: u32,
+        call: Call,
+    ) -> Result<Stepped, (AllocError, Call)>
+        ensures stepped { IfOk result (IsStepped self.old self.new (ruling_of rules.now) task seq call) }
+        ensures stands { OnOk result ((journal : List Batch) → StandsFor rules.now journal
+            → StandsOver journal self.old.trail self.old.world → StandsOver journal self.new.trail self.new.world) }
+        ensures back { IfErr result (λ e. e.1 ≡ call) }
+        ensures err { OnErr result (self.new ≡ self.old) }
+    {
+        self.world.step(alloc, rules, task, seq, call)
     }
 
     /// The entries in the order in which the calls were made.

@@ -2,34 +2,25 @@ use Rattle.std.proofs.Common.{arith, refl, ap, sym, subst, ◌∙◌, ◌≡◌,
 use Rattle.std.specs.Prelude.{Ok, Err}
 use Rattle.file_spec.specs.Files.{compiled}
 use Rattle.smack_kernel.specs.Tasks.{TaskValue, KernelValue, Loads, most_calls}
-use Rattle.smack_kernel.specs.Answers.{IsWritten}
+use Rattle.file_spec.specs.declared.Compiled.TheVariants as compiles
+use Rattle.world_spec.specs.declared.Call.TheVariants.{Task}
+use Rattle.world_spec.specs.declared.TaskCall.TheVariants as call
+use Rattle.smack_kernel.specs.Answers.{IsWritten, written_call}
 use Rattle.smack_kernel.specs.declared.kernel.Written.{Written}
 use Rattle.smack_kernel.specs.declared.kernel.Written.TheVariants as written
 use Rattle.smackfs.specs.Gives.{Faults}
 use Rattle.smack_kernel.proofs.Tasks.{loads_none}
-use Rattle.smack_kernel.proofs.Texts.{GoodCompiled, compiled_good, text_refused}
+use Rattle.smack_kernel.proofs.Texts.{GoodCompiled, compiled_good, text_refused, own_written}
 use Rattle.smack_kernel.proofs.kernel.Kernel.write.Goals as goal
 
 pub returns-then-task-ge-MOST_CALLS-clause-loads : goal.returns-then-task-ge-MOST_CALLS-clause-loads
-returns-then-task-ge-MOST_CALLS-clause-loads g c = rw (← c.task.view_is) (loads_none c.task.invariant c.args.steps.now)
+returns-then-task-ge-MOST_CALLS-clause-loads g c = rw (← c.task.view_is) (loads_none c.task.invariant.0 c.args.steps.now)
 
 pub write_ops-requires-clause-packed : goal.write_ops-requires-clause-packed
 write_ops-requires-clause-packed g c =
     let good = compiled_good c.self.inside.labels
-    (let a = c.len.ensures.len in let b = c.len.ensures.limit in omega arith) c.args.file.now c.args.text.now c.requires.file in
+    (let a = c.len.ensures.len in let b = c.len.ensures.limit in omega arith) c.args.file.now c.args.text.now in
     subst GoodCompiled (c.in-Ok-Rules.ensures ∙ ap Ok c.in-Ok-Rules.field-0-is) good
-
-pub unreachable-requires : goal.unreachable-requires
-unreachable-requires g c =
-    let good = compiled_good c.self.inside.labels
-    (let a = c.len.ensures.len in let b = c.len.ensures.limit in omega arith) c.args.file.now c.args.text.now c.requires.file in
-    subst GoodCompiled (c.in-Ok-SelfRules.ensures ∙ ap Ok c.in-Ok-SelfRules.field-0-is) good
-
-pub unreachable-requires-in-Ok-Relabels : goal.unreachable-requires-in-Ok-Relabels
-unreachable-requires-in-Ok-Relabels g c =
-    let good = compiled_good c.self.inside.labels
-    (let a = c.len.ensures.len in let b = c.len.ensures.limit in omega arith) c.args.file.now c.args.text.now c.requires.file in
-    subst GoodCompiled (c.in-Ok-Relabels.ensures ∙ ap Ok c.in-Ok-Relabels.field-0-is) good
 
 pub returns-in-Err-Refused-clause-written : goal.returns-in-Err-Refused-clause-written
 returns-in-Err-Refused-clause-written g c =
@@ -38,7 +29,7 @@ returns-in-Err-Refused-clause-written g c =
     let text = c.args.text.now in
     let fault = c.in-Err-Refused.fault in
     let good = compiled_good c.self.inside.labels
-    (let a = c.len.ensures.len in let b = c.len.ensures.limit in omega arith) file text c.requires.file in
+    (let a = c.len.ensures.len in let b = c.len.ensures.limit in omega arith) file text in
     let is = subst
     (λ f. Faults f
     (compiled c.self.inside.labels file text)) c.in-Err-Refused.field-0-is c.in-Err-Refused.ensures in
@@ -56,7 +47,25 @@ returns-in-Err-Refused-clause-written g c =
 pub returns-in-Err-Refused-clause-loads : goal.returns-in-Err-Refused-clause-loads
 returns-in-Err-Refused-clause-loads g c =
     subst (λ w. Loads c.args.task.now w c.args.steps.now c.args.steps.now) (sym c.refuse_text.ensures.refused)
-    (rw (← c.task.view_is) (loads_none c.task.invariant c.args.steps.now))
+    (rw (← c.task.view_is) (loads_none c.task.invariant.0 c.args.steps.now))
 
 pub returns-in-Err-Memory-clause-loads : goal.returns-in-Err-Memory-clause-loads
-returns-in-Err-Memory-clause-loads g c = rw (← c.task.view_is) (loads_none c.task.invariant c.args.steps.now)
+returns-in-Err-Memory-clause-loads g c = rw (← c.task.view_is) (loads_none c.task.invariant.0 c.args.steps.now)
+
+pub returns-in-Ok-SelfRules-clause-written : goal.returns-in-Ok-SelfRules-clause-written
+returns-in-Ok-SelfRules-clause-written g c =
+    let file = c.args.file.now in
+    let text = c.args.text.now in
+    let is = subst (λ (k : KernelValue). compiled k.labels file text ≡ Ok (compiles.SelfRules c.in-Ok-SelfRules.rules)) c.self.view_is
+    (c.in-Ok-SelfRules.ensures ∙ ap Ok c.in-Ok-SelfRules.field-0-is) in
+    own_written c.args.self.now.labels c.args.task.now c.write_own.new.task file text
+    (Task (call.SelfRules c.in-Ok-SelfRules.rules)) (ap written_call is) c.write_own.result c.write_own.ensures.written
+
+pub returns-in-Ok-Relabels-clause-written : goal.returns-in-Ok-Relabels-clause-written
+returns-in-Ok-Relabels-clause-written g c =
+    let file = c.args.file.now in
+    let text = c.args.text.now in
+    let is = subst (λ (k : KernelValue). compiled k.labels file text ≡ Ok (compiles.Relabels c.in-Ok-Relabels.labels)) c.self.view_is
+    (c.in-Ok-Relabels.ensures ∙ ap Ok c.in-Ok-Relabels.field-0-is) in
+    own_written c.args.self.now.labels c.args.task.now c.write_own-in-Ok-Relabels.new.task file text
+    (Task (call.Relabels c.in-Ok-Relabels.labels)) (ap written_call is) c.write_own-in-Ok-Relabels.result c.write_own-in-Ok-Relabels.ensures.written
