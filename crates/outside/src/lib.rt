@@ -4,12 +4,14 @@
 //! count of faults that never falls. The crate promises that reads and writes lose no byte and put none in, and that
 //! a fault is answered only where the count rose. `read_all` reads a source to its end, `offer` offers a piece until
 //! all of it is taken. The sources and sinks over memory tell all, and fail at the calls that a list names; those over
-//! std's readers and writers tell no bytes. It stands on std alone.
+//! std's readers and writers tell no bytes. A `Gate` is told of each line of a script before it is run. The crate stands on
+//! std alone.
 #![tactic(auto)]
 
 mod calls;
 mod calm;
 mod faults;
+mod gate;
 mod memory;
 mod offering;
 mod reading;
@@ -20,6 +22,7 @@ mod standard;
 mod tests;
 
 pub use calm::{CalmSink, CalmSource};
+pub use gate::{Gate, OpenGate};
 pub use memory::{MemSink, MemSource};
 pub use offering::offer;
 pub use reading::{Unread, read_all};
