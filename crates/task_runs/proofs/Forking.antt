@@ -1,0 +1,227 @@
+-- A fork: what the task and its child then did side by side, the adoption, and the wait.
+use Rattle.std.proofs.Common.{◌≡◌, ℕ, ◌+◌, ◌≤◌, ◌&&◌, List, [], ◌∷◌, ◌++◌, length, Bool, true, false, sym, refl, ap, ◌∙◌, subst, append_assoc, append-nil, arith, length-append, Option, Some, None, ⊎_elim, le_refl}
+use Rattle.world_spec.specs.declared.Call.TheVariants.{Task}
+use Rattle.world_spec.specs.declared.TaskCall.TheVariants.{Fork}
+use Rattle.world_spec.specs.declared.Reply.TheVariants.{Child}
+use Rattle.world_spec.specs.declared.Entry.{Entry}
+use Rattle.script_spec.specs.Lines.{ScriptLine}
+use Rattle.record_spec.specs.declared.AskedLine.{AskedLine}
+use Rattle.record_spec.specs.declared.AskedWhat.TheVariants.{Wait}
+use Rattle.legal_spec.specs.Calls.{Stands}
+use Rattle.live_table.specs.Lists.{Has, here, there}
+use Rattle.live_table.specs.Batches.{batches_by}
+use Rattle.live_table.proofs.Lists.{has_left, has_right, has_either, begins_trans, begins_length}
+use Rattle.smack_kernel.specs.Tasks.{TaskValue, Calls, Starts, Adopts}
+use Rattle.smack_kernel.specs.Growth.{entry_of}
+use Rattle.smack_kernel.specs.declared.turns.Entered.{Entered}
+use Rattle.task_runs.specs.Scripts.{Scripted, ForksTask, WaitsFor, lines_by}
+use Rattle.task_runs.specs.Deeds.{entries_of, entries_in, batches_in, IsTrueAnswer, AllAt, FitsTo, by_version, by_place}
+use Rattle.task_runs.specs.Runs.{Run, ends, forks, waited, wait_deeds, own, numbers, IsWaitOf, Kids, Distinct, Went}
+use Rattle.task_runs.specs.Meetings.{AllWithin, awaited, Waits}
+use Rattle.task_runs.proofs.Growing.{stands_grow, stands_last, all_at-grow, all_made-grow}
+use Rattle.task_runs.proofs.Runs.{fits-then, kids-any, distinct-append, all_at-append, batches-append, entries-append, version_clock, place_clock, over_low, over_high}
+use Rattle.task_runs.proofs.Calls.{line_of}
+
+pub waits_none : (s : Scripted) (pid : ℕ) (w : TaskValue) (l : ScriptLine) (ls : List ScriptLine) → Waits s pid w None w.made (awaited None l ls) ls
+waits_none s pid w l ls = record {
+  is_made = omega arith;
+  fits = refl;
+  is_wait = tt;
+  fresh = le_refl w.version;
+  placed = λ n. le_refl n;
+  within = tt;
+}
+
+abbrev pub wait_of : TaskValue → ℕ → AskedLine
+wait_of w pid = line_of w w.version (Wait (record { 0 = pid }))
+
+pub waits_one : (s : Scripted) (pid : ℕ) (w : TaskValue) (l : ScriptLine) (ls : List ScriptLine) → w.version ≤ length w.journal → WaitsFor s l pid
+    → Waits s pid w (Some (wait_of w pid)) (w.made + 1) (awaited (Some (wait_of w pid)) l ls) ls
+waits_one s pid w l ls top line = record {
+  is_made = refl;
+  fits = ((refl, refl, line), refl);
+  is_wait = refl;
+  fresh = (le_refl w.version, le_refl w.version);
+  placed = λ n. (le_refl n, tt);
+  within = (top, tt);
+}
+
+pub kids-mine : (f g : Bool) (s : Scripted) (r : Run) → Kids f s r → Kids (f && g) s r
+kids-mine true g s r k = kids-any g s r k
+kids-mine false g s r k = k
+
+pub kids-theirs : (f g : Bool) (s : Scripted) (r : Run) → Kids g s r → Kids (f && g) s r
+kids-theirs true g s r k = k
+kids-theirs false true s r k = kids-any false s r k
+kids-theirs false false s r k = k
+
+pub both : (f g : Bool) → (f && g) ≡ true → (f ≡ true) × (g ≡ true)
+both true g e = (refl, e)
+both false g e = absurd (let e' : false ≡ true = e in cc)
+
+module _ (s : Scripted) (pid : ℕ) (ls mid rest left : List ScriptLine) (v u u' c c' w : TaskValue) (r : Entered) (wait : Option AskedLine)
+    (made' : ℕ) where
+  unfoldable pub went_fork : (f g : Bool) (l : ScriptLine) → ForksTask s l pid → Calls v u (Task (Fork (record { 0 = pid }))) r → r.reply ≡ Child c.number
+      → Starts u c c.number → Went f s ls mid u u' → Went g s (lines_by pid s.lines) left c c' → (g ≡ true → left ≡ []) → Adopts u' c' w
+      → Waits s pid w wait made' mid rest → Went (f && g) s (l ∷ ls) rest v (record w { made = made' })
+  went_fork f g l line call_ is_child st mine theirs done adopted wt = record {
+    run = forks e n pid c.number mine.run theirs.run wait ends;
+    table = adopted.table ∙ (mine.table ∙ call_.does.table);
+    number = adopted.number ∙ nu;
+    made = let a = call_.made in let b = mine.made in let d = adopted.made in let x = wt.is_made in
+        omega (arith, length-append (own mine.run) (wait_deeds wait ++ []), length-append (wait_deeds wait) []);
+    fits = (
+      (refl, refl, line),
+      fits-then s v.number (v.made + 1 + 1) (own mine.run) (wait_deeds wait ++ []) ls mid rest
+          (subst (λ (x : ℕ × ℕ). FitsTo s x.0 x.1 (own mine.run) ls mid)
+          (λ i. (call_.does.number i, (let z : u.made + 1 ≡ v.made + 1 + 1 = (let a = call_.made in omega arith) in z) i)) mine.fits)
+          (subst (λ d. FitsTo s v.number (v.made + 1 + 1 + length (own mine.run)) d mid rest) (sym (append-nil (wait_deeds wait)))
+          (subst (λ (x : ℕ × ℕ). FitsTo s x.0 x.1 (wait_deeds wait) mid rest)
+          (λ i. (
+            (adopted.number ∙ nu) i,
+            (let z : w.made + 1 ≡ v.made + 1 + 1 + length (own mine.run) =
+                (let a = call_.made in let b = mine.made in let d = adopted.made in omega arith) in z) i,
+          )) wt.fits)),
+    );
+    kids = (
+      refl,
+      is_child,
+      wt.is_wait,
+      record {
+        rest = left;
+        fits = subst (λ x. FitsTo s c.number x (own theirs.run) (lines_by pid s.lines) left)
+            (let z : c.made + 1 ≡ 1 = (let y = st.made in omega arith) in z) theirs.fits;
+        all = λ z. done (both f g z).1;
+      },
+      kids-mine f g s mine.run mine.kids,
+      kids-theirs f g s theirs.run theirs.kids,
+      tt,
+    );
+    ended = adopted.ended ∙ ((λ i. ended_u i ++ (theirs.number i ∷ ended_c i))
+        ∙ (append_assoc v.ended (numbers mine.run) (c.number ∷ numbers theirs.run)
+        ∙ ap (λ l. v.ended ++ (numbers mine.run ++ l)) (sym (append-nil (c.number ∷ numbers theirs.run)))));
+    apart = λ k h t. ⊎_elim (mine.apart k (of_u k h)) (λ y. adopted.apart k (of_u' k h) (of_c' k (in_theirs k y)))
+        (has_either (numbers mine.run) ((c.number ∷ numbers theirs.run) ++ []) t);
+    distinct = distinct-append (numbers mine.run) ((c.number ∷ numbers theirs.run) ++ []) mine.distinct
+        (subst Distinct (sym (append-nil (c.number ∷ numbers theirs.run))) ((λ h. theirs.apart c.number here h), theirs.distinct))
+        (λ k h y. adopted.apart k (there (of_mine k h)) (of_c' k (in_theirs k y)));
+    journal = begins_trans adopted.journal (begins_trans mine.journal call_.does.grows.journal);
+    history = begins_trans adopted.history (begins_trans mine.history call_.does.grows.history);
+    own_batches = adopted.batches v.number mine_is
+        ∙ (subst (λ k. batches_by k u'.journal ≡ batches_by k u.journal ++ batches_in (own mine.run)) call_.does.number mine.own_batches
+        ∙ (ap (λ l. l ++ batches_in (own mine.run)) (call_.does.grows.own_batches ∙ append-nil (batches_by v.number v.journal))
+        ∙ ap (λ l. batches_by v.number v.journal ++ l) (sym (batches-append (own mine.run) (wait_deeds wait ++ [])
+        ∙ (ap (λ l. batches_in (own mine.run) ++ l) (wait_batches wait) ∙ append-nil (batches_in (own mine.run)))))));
+    own_entries = adopted.entries v.number mine_is
+        ∙ (subst (λ k. entries_of k u'.history ≡ entries_of k u.history ++ entries_in (own mine.run)) call_.does.number mine.own_entries
+        ∙ (ap (λ l. l ++ entries_in (own mine.run)) call_.does.grows.own_entries
+        ∙ (append_assoc (entries_of v.number v.history) (e ∷ []) (entries_in (own mine.run))
+        ∙ ap (λ l. entries_of v.number v.history ++ (e ∷ l)) (sym (entries-append (own mine.run) (wait_deeds wait ++ [])
+        ∙ (ap (λ l. entries_in (own mine.run) ++ l) (wait_entries wait) ∙ append-nil (entries_in (own mine.run))))))));
+    at = (
+      stands_grow u.history w.history n e (begins_trans adopted.history mine.history) stands_e,
+      all_at-append w.journal w.history v.number (own mine.run) (wait_deeds wait ++ [])
+          (all_at-grow u'.journal w.journal adopted.journal u'.history w.history adopted.history v.number (own mine.run)
+          (subst (λ k. AllAt u'.journal u'.history k (own mine.run)) call_.does.number mine.at))
+          (wait_at wait wt.is_wait wt.within),
+    );
+    batches = λ k h. adopted.batches k (there (in_u' k h)) ∙ (mine.batches k (in_u k h) ∙ call_.does.grows.batches k h);
+    entries = λ k h. adopted.entries k (there (in_u' k h)) ∙ (mine.entries k (in_u k h) ∙ call_.does.grows.entries k h);
+    others = (
+      record {
+        batches = adopted.told_batches c.number theirs_is ∙ (theirs.own_batches ∙ ap (λ l. l ++ batches_in (own theirs.run)) st.batches);
+        entries = adopted.told_entries c.number theirs_is ∙ (theirs.own_entries ∙ ap (λ l. l ++ entries_in (own theirs.run)) st.entries);
+        at = all_at-grow c'.journal w.journal adopted.told_journal c'.history w.history adopted.told_history c.number (own theirs.run) theirs.at;
+      },
+      all_made-grow u'.journal w.journal adopted.journal u'.history w.history adopted.history mine.run
+          (λ k h. adopted.batches k (there (of_mine k h))) (λ k h. adopted.entries k (there (of_mine k h))) mine.others,
+      all_made-grow c'.journal w.journal adopted.told_journal c'.history w.history adopted.told_history theirs.run
+          (λ k h. adopted.told_batches k (there (of_theirs k h))) (λ k h. adopted.told_entries k (there (of_theirs k h))) theirs.others,
+      tt,
+    );
+    fresh = (
+      u.version,
+      (let a = call_.does.later in let b = call_.now in (omega arith, omega arith)),
+      w.version,
+      over_high by_version version_clock u.version mine.run u'.version w.version adopted.version mine.fresh,
+      over_low by_version version_clock c.version u.version theirs.run w.version (let a = st.version in omega arith)
+          (over_high by_version version_clock c.version theirs.run c'.version w.version adopted.told_version theirs.fresh),
+      w.version,
+      wt.fresh,
+      le_refl w.version,
+    );
+    placed = (
+      length u.history,
+      (let a = begins_length call_.enters.more in let b = ap length call_.enters.is in
+          let d = length-append call_.enters.before (e ∷ []) in (omega arith, omega arith)),
+      length w.history,
+      over_high by_place place_clock (length u.history) mine.run (length u'.history) (length w.history) (begins_length adopted.history) mine.placed,
+      over_low by_place place_clock (length c.history) (length u.history) theirs.run (length w.history) (begins_length st.history)
+          (over_high by_place place_clock (length c.history) theirs.run (length c'.history) (length w.history)
+          (begins_length adopted.told_history) theirs.placed),
+      length w.history,
+      wt.placed (length w.history),
+      le_refl (length w.history),
+    );
+    within = adopted.within;
+  } where
+    e : Entry
+    e = entry_of v.number (v.made + 1) (Task (Fork (record { 0 = pid }))) r.version r.checks r.reply
+
+    n : ℕ
+    n = length call_.enters.before
+
+    nu : u'.number ≡ v.number
+    nu = mine.number ∙ call_.does.number
+
+    stands_e : Stands u.history n e
+    stands_e = stands_last u.history call_.enters.before e call_.enters.is
+
+    ended_u : u'.ended ≡ v.ended ++ numbers mine.run
+    ended_u = mine.ended ∙ ap (λ l. l ++ numbers mine.run) call_.does.ended
+
+    ended_c : c'.ended ≡ numbers theirs.run
+    ended_c = theirs.ended ∙ ap (λ l. l ++ numbers theirs.run) st.ended
+
+    mine_is : Has v.number (u'.number ∷ u'.ended)
+    mine_is = subst (λ k. Has v.number (k ∷ u'.ended)) (sym nu) here
+
+    theirs_is : Has c.number (c'.number ∷ c'.ended)
+    theirs_is = subst (λ k. Has c.number (k ∷ c'.ended)) (sym theirs.number) here
+
+    in_theirs : (k : ℕ) → Has k ((c.number ∷ numbers theirs.run) ++ []) → Has k (c.number ∷ numbers theirs.run)
+    in_theirs k y = ⊎_elim (λ z. z) (λ z. elim z [ ]) (has_either (c.number ∷ numbers theirs.run) [] y)
+
+    in_u : (k : ℕ) → Has k v.ended → Has k u.ended
+    in_u k h = subst (Has k) (sym call_.does.ended) h
+
+    in_u' : (k : ℕ) → Has k v.ended → Has k u'.ended
+    in_u' k h = subst (Has k) (sym ended_u) (has_left (numbers mine.run) h)
+
+    of_mine : (k : ℕ) → Has k (numbers mine.run) → Has k u'.ended
+    of_mine k h = subst (Has k) (sym ended_u) (has_right v.ended h)
+
+    of_u : (k : ℕ) → Has k (v.number ∷ v.ended) → Has k (u.number ∷ u.ended)
+    of_u k h = subst (λ (x : ℕ × List ℕ). Has k (x.0 ∷ x.1)) (λ i. (sym call_.does.number i, sym call_.does.ended i)) h
+
+    of_u' : (k : ℕ) → Has k (v.number ∷ v.ended) → Has k (u'.number ∷ u'.ended)
+    of_u' k h = subst (λ (x : ℕ × List ℕ). Has k (x.0 ∷ x.1)) (λ i. (sym nu i, sym ended_u i)) (has_left (numbers mine.run) h)
+
+    of_c' : (k : ℕ) → Has k (c.number ∷ numbers theirs.run) → Has k (c'.number ∷ c'.ended)
+    of_c' k h = subst (λ (x : ℕ × List ℕ). Has k (x.0 ∷ x.1)) (λ i. (sym theirs.number i, sym ended_c i)) h
+
+    of_theirs : (k : ℕ) → Has k (numbers theirs.run) → Has k c'.ended
+    of_theirs k h = subst (Has k) (sym ended_c) h
+
+    wait_batches : (x : Option AskedLine) → batches_in (wait_deeds x ++ []) ≡ []
+    wait_batches None = refl
+    wait_batches (Some l) = refl
+
+    wait_entries : (x : Option AskedLine) → entries_in (wait_deeds x ++ []) ≡ []
+    wait_entries None = refl
+    wait_entries (Some l) = refl
+
+    wait_at : (x : Option AskedLine) → IsWaitOf pid x → AllWithin w.journal (waited x)
+        → AllAt w.journal w.history v.number (wait_deeds x ++ [])
+    wait_at None i a = tt
+    wait_at (Some l) i a = ((a.0, subst (IsTrueAnswer w.journal w.history v.number 0 l.version) (sym i) tt), tt)

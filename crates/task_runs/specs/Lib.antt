@@ -1,0 +1,4 @@
+pub mod Scripts
+pub mod Deeds
+pub mod Runs
+pub mod Meetings

@@ -1,0 +1,13 @@
+//! What a task of a script did at a kernel. Definitions and laws alone: plain data in `specs/`, how
+//! runs are put together in `proofs/`.
+//!
+//! `Scripts` has the lines of a script task. `Deeds` says what one call of a task is, which line it
+//! is, where it stands in a journal and a history, and that it is lawful there. A `Run` (`Runs`) is the
+//! calls of a task in their order with the runs of its children beside them; `Went` says what a
+//! task's run over some lines makes of the task, and `Ran` what a worker that may stop promises. By
+//! `Over` no call is judged in a version older than its task had seen or been told of. `Meetings`
+//! is where a task and its child come together again.
+//!
+//! Stands on smack_kernel for what a task is and what each call does to it, and on legal_spec for
+//! what a line may become.
+#![tactic(auto)]
