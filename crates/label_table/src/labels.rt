@@ -1,6 +1,8 @@
-ghost use Rattle.std.specs.Prelude.{◌≡◌, ℕ, ◌<◌, ◌≤◌, ◌↔◌, false, length, slice_index_or, map, [], IfOk, IfSome, OnOk, OnErr};
+ghost use Rattle.std.specs.Prelude.{◌≡◌, ℕ, ◌<◌, ◌≤◌, ◌↔◌, false, length, slice_index_or, map, [], Some, IfOk, IfSome, OnOk, OnErr};
+ghost use Rattle.std.specs.Bool.{OnTrue};
 ghost use Rattle.text_spec.specs.Names.{predefined, place_of, has_name, with_name, id_of, IsLabelTable};
 
+use crate::guesses::Guesses;
 use indexmap::IndexSet;
 use smack_base::{Duplicate, Label, LabelId};
 use std::alloc::{AllocError, Global};
@@ -22,6 +24,7 @@ pub enum LabelsFault {
 #[derive(Drop)]
 pub struct Labels {
     texts: IndexSet<Vec<u8>>,
+    guesses: Guesses,
 }
 
 impl Model for Labels {
@@ -61,7 +64,8 @@ impl Labels {
         put(&mut texts, b"*")?;
         put(&mut texts, b"?")?;
         put(&mut texts, b"@")?;
-        Ok(Labels { texts })
+        let guesses = Guesses::new(alloc)?;
+        Ok(Labels { texts, guesses })
     }
 
     /// The id of a label: the one that it has, or the next. Ids that were given before stay.
@@ -91,11 +95,35 @@ impl Labels {
         let Ok(()) = put(&mut self.texts, label.bytes()) else {
             return Err(LabelsFault::Memory);
         };
+        self.guesses.note(label.bytes(), LabelId(place as u16));
         Ok(LabelId(place as u16))
     }
 
     /// The id of a label text; `None` exactly where it is not in the table. Takes no memory.
     pub fn id(&self, bytes: &[u8]) -> Option<LabelId>
+        ensures id { result ≡ id_of self.now bytes.now }
+        ensures named { IfSome result (λ id. (id.0 < length self.now)
+            × (slice_index_or self.now id.0 [] ≡ bytes.now)) }
+    {
+        let id = self.guesses.guess(bytes);
+        if self.is_named(id, bytes) {
+            Some(id)
+        } else {
+            self.find(bytes)
+        }
+    }
+
+    /// Whether the label with this id is there, and has this text.
+    fn is_named(&self, id: LabelId, bytes: &[u8]) -> bool
+        ensures id { OnTrue result (id_of self.now bytes.now ≡ Some id) }
+        ensures named { OnTrue result ((id.0 < length self.now)
+            × (slice_index_or self.now id.0 [] ≡ bytes.now)) }
+    {
+        u32::from(id.0) < self.len() && self.name(id) == bytes
+    }
+
+    /// The id of a label text, looked up by its hash.
+    fn find(&self, bytes: &[u8]) -> Option<LabelId>
         ensures id { result ≡ id_of self.now bytes.now }
         ensures named { IfSome result (λ id. (id.0 < length self.now)
             × (slice_index_or self.now id.0 [] ≡ bytes.now)) }
@@ -139,6 +167,7 @@ impl Labels {
 impl Duplicate for Labels {
     fn copy(&self) -> Result<Labels, AllocError> {
         let texts = self.texts.clone()?;
-        Ok(Labels { texts })
+        let guesses = self.guesses.copy()?;
+        Ok(Labels { texts, guesses })
     }
 }

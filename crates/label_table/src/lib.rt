@@ -6,10 +6,11 @@
 //! end. Ids and texts agree: `name` of the id of a text is that text, and the id of a name is the
 //! id that it was asked for. At most 65,535 labels stand.
 //!
-//! Stands on `indexmap`: `add` and `id` look up by hash, and only `new`, `add` and `copy` take
-//! memory.
+//! Stands on `indexmap`: `add` and `id` look up by hash, where a guess by a few bytes of the text does
+//! not find it. Only `new`, `add` and `copy` take memory.
 #![tactic(auto)]
 
+mod guesses;
 mod labels;
 #[cfg(test)]
 mod tests;

@@ -1,6 +1,6 @@
 use Rattle.std.proofs.Common.{sym, ◌∙◌, Some, None}
 use Rattle.label_table.proofs.Places.{position_is_id, id_is_named}
-use Rattle.label_table.proofs.labels.Labels.id.Goals as goal
+use Rattle.label_table.proofs.labels.Labels.find.Goals as goal
 
 pub returns-in-Some-clause-id : goal.returns-in-Some-clause-id
 returns-in-Some-clause-id c = rw (← c.self.view_is)
