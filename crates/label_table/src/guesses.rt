@@ -15,7 +15,7 @@ const LAST_FACTOR: u64 = 0xd6e8_feb8_6659_fd93;
 fn eight_at(bytes: &[u8], at: usize) -> u64
     requires { at + 8 ≤ length bytes.now }
 {
-    u64::from_le_bytes([
+    u64::from_be_bytes([
         bytes[at],
         bytes[at + 1],
         bytes[at + 2],
@@ -47,7 +47,7 @@ fn number_of(bytes: &[u8]) -> usize {
     let mixed = (first.wrapping_mul(FIRST_FACTOR) ^ last)
         .wrapping_add(len as u64)
         .wrapping_mul(LAST_FACTOR);
-    (mixed >> 40) as usize % NUMBERS
+    (mixed >> 50) as usize % NUMBERS
 }
 
 /// For the number of a text, the label that came last with it. What is guessed may be the id of

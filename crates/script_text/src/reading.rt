@@ -13,7 +13,7 @@ use crate::line::Line;
 use crate::spelled::Spelled;
 use crate::tasks::TaskTable;
 use crate::texts::{read_text, rows_with};
-use crate::words::{spaced_words, text_count, word};
+use crate::words::{put_words, text_count, word};
 use label_table::{Labels, LabelsFault};
 use rule_text::{Part, Separator, split_line, split_lines, split_word};
 use script_spec::{ScriptFault, What};
@@ -144,9 +144,11 @@ fn add_call<'a>(
     }
 }
 
-/// Reads a line that is neither skipped nor text, and its text: adds the call that it spells.
+/// Reads a line that is neither skipped nor text, and its text: adds the call that it spells. Its
+/// words are put where those of other lines were.
 fn read_item<'a>(
     draft: &mut Draft<'a>,
+    words: &mut Vec<Part<'a>>,
     alloc: Global,
     found: Found<'a>,
 ) -> Result<Place<'a>, ScriptFault>
@@ -159,7 +161,7 @@ fn read_item<'a>(
     if found.number > MOST_LINES {
         return Err(ScriptFault::TooLarge { what: What::Lines });
     }
-    let Ok(words) = spaced_words(alloc, found.line) else {
+    let Ok(()) = put_words(words, found.line) else {
         return Err(ScriptFault::Memory);
     };
     let (call, place) = match spell(&draft.tasks, found, words.as_slice()) {
@@ -198,6 +200,7 @@ pub fn read_calls<'a>(alloc: Global, text: Part<'a>) -> Result<Draft<'a>, Script
         rows: 0,
         labels,
     };
+    let mut words = Vec::new(alloc);
     let mut place = Place {
         rest: text,
         line: 1,
@@ -214,7 +217,7 @@ pub fn read_calls<'a>(alloc: Global, text: Part<'a>) -> Result<Draft<'a>, Script
                 line,
                 after,
             };
-            place = match read_item(&mut draft, alloc, found) {
+            place = match read_item(&mut draft, &mut words, alloc, found) {
                 Ok(next) => next,
                 Err(fault) => return Err(fault),
             };

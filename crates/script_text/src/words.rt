@@ -1,4 +1,4 @@
-ghost use Rattle.std.specs.Prelude.{true, ◌≡◌, ◌<◌, ◌≤◌, ◌^◌, ◌+◌, ◌*◌, ◌∷◌, ◌++◌, [], length, map, take, drop, IfOk, IfSome, MatchOption, All};
+ghost use Rattle.std.specs.Prelude.{true, ◌≡◌, ◌<◌, ◌≤◌, ◌^◌, ◌+◌, ◌*◌, ◌∷◌, ◌++◌, [], length, map, take, drop, IfSome, OnOk, MatchOption, All};
 ghost use Rattle.std.specs.List.{list_all, list_any};
 ghost use Rattle.std.specs.Str.{bytes_eq};
 ghost use Rattle.smack_base.specs.Paths.{is_slash as is_slash_byte, is_name_byte};
@@ -11,7 +11,7 @@ use crate::verbs::verb_of;
 use rule_text::{Part, Separator, split_word};
 use script_spec::{TraceWay, Verb, WordKind};
 use smack_base::{Cap, Label, Modes, is_path};
-use std::alloc::{AllocError, Global};
+use std::alloc::AllocError;
 
 /// The capability with this name; None where there is none.
 pub fn cap_of(name: &[u8]) -> Option<Cap>
@@ -236,19 +236,19 @@ pub fn has_deep_path(kinds: &[WordKind], words: &[Part<'_>]) -> bool
     false
 }
 
-/// The words of a line, in order.
-pub fn spaced_words<'a>(alloc: Global, line: Part<'a>) -> Result<Vec<Part<'a>>, AllocError>
+/// Puts the words of a line, in order, in the place of those that are there.
+pub fn put_words<'a>(words: &mut Vec<Part<'a>>, line: Part<'a>) -> Result<(), AllocError>
     requires { Fits line }
-    ensures words { IfOk result (λ words. map placed words.items ≡ words_of is_space line.entry) }
-    ensures fit { IfOk result (λ words. All Fits words.items) }
+    ensures words { OnOk result (map placed words.new.items ≡ words_of is_space line.entry) }
+    ensures fit { OnOk result (All Fits words.new.items) }
 {
-    let mut words = Vec::new(alloc);
+    words.clear();
     let mut rest = line;
     while let Some((word, after)) = split_word(rest, Separator::Space) {
         words.push(word)?;
         rest = after;
     }
-    Ok(words)
+    Ok(())
 }
 
 /// The word behind so many others; an empty one where there is none.

@@ -2,7 +2,7 @@ use Rattle.std.proofs.Common.{◌≡◌, ◌++◌, length}
 use Rattle.std.specs.Prelude.{map, All}
 use Rattle.text_spec.specs.Texts.{is_space}
 use Rattle.rule_text.specs.Parts.{Fits, placed, words_of, end_of}
-use Rattle.script_text.proofs.words.spaced_words.Given as goal
+use Rattle.script_text.proofs.words.put_words.Given as goal
 
 abbrev pub invariant-loop-word : goal.invariant-loop-word
 invariant-loop-word l = record {
