@@ -2,6 +2,7 @@ pub mod Places
 pub mod EmptyTests
 pub mod FirstLine
 pub mod FirstWord
+mod JudgedWords
 pub mod WholeLines
 pub mod LineSlices
 pub mod WordSlices

@@ -5,3 +5,4 @@ pub mod RuleAnswers
 pub mod LeftWords
 pub mod LabelAnswers
 pub mod Counted
+pub mod JudgedWords

@@ -1,8 +1,10 @@
 ghost use Rattle.std.specs.Prelude.{◌≡◌};
 ghost use Rattle.text_spec.specs.RuleTexts.{subject_fault, object_fault, allow_fault, deny_fault};
+ghost use Rattle.rule_text.specs.JudgedWords.{IsJudged};
 ghost use Rattle.rule_text.specs.Parts.{Fits, placed};
 
 use crate::part::Part;
+use crate::words::JudgedWord;
 use smack_base::{Label, Modes};
 use text_spec::LineFault;
 
@@ -53,5 +55,27 @@ pub(crate) fn fault_of_deny(deny: Part) -> Option<LineFault>
     match Modes::read(deny.bytes) {
         Ok(_) => None,
         Err(bad) => Some(LineFault::Deny { at: bad.at }),
+    }
+}
+
+pub(crate) fn fault_of_judged_subject(subject: JudgedWord) -> Option<LineFault>
+    requires { IsJudged subject }
+    ensures { result ≡ subject_fault (placed subject.entry.word) }
+{
+    if subject.is_label {
+        None
+    } else {
+        fault_of_subject(subject.word)
+    }
+}
+
+pub(crate) fn fault_of_judged_object(object: JudgedWord) -> Option<LineFault>
+    requires { IsJudged object }
+    ensures { result ≡ object_fault (placed object.entry.word) }
+{
+    if object.is_label {
+        None
+    } else {
+        fault_of_object(object.word)
     }
 }

@@ -1,14 +1,15 @@
 ghost use Rattle.std.specs.Prelude.{◌≡◌, ◌∷◌, []};
 ghost use Rattle.text_spec.specs.Texts.{is_blank};
 ghost use Rattle.text_spec.specs.RuleTexts.{long_line, change_line};
+ghost use Rattle.rule_text.specs.JudgedWords.{IsJudged};
 ghost use Rattle.rule_text.specs.Parts.{Fits, placed, words_of};
 ghost use Rattle.rule_text.specs.RuleAnswers.{seen, fields_of, denying};
 
 use crate::part::Part;
 use crate::rule_line::{
-    RuleLine, fault_of_allow, fault_of_deny, fault_of_object, fault_of_subject,
+    RuleLine, fault_of_allow, fault_of_deny, fault_of_judged_object, fault_of_judged_subject,
 };
-use crate::words::{Separator, split_word, word_count};
+use crate::words::{JudgedWord, Separator, split_label, split_word, word_count};
 use text_spec::{BadLine, LineFault};
 
 fn wrong_fields<'a>(line: u32, n: u32) -> Result<RuleLine<'a>, BadLine>
@@ -22,26 +23,28 @@ fn wrong_fields<'a>(line: u32, n: u32) -> Result<RuleLine<'a>, BadLine>
 
 fn judge_long<'a>(
     line: u32,
-    subject: Part<'a>,
-    object: Part<'a>,
+    subject: JudgedWord<'a>,
+    object: JudgedWord<'a>,
     allow: Part<'a>,
 ) -> Result<RuleLine<'a>, BadLine>
-    requires { Fits allow }
+    requires fits { Fits allow }
+    requires subject { IsJudged subject }
+    requires object { IsJudged object }
     ensures { seen result ≡ long_line line
-        (placed subject.entry ∷ placed object.entry ∷ placed allow.entry ∷ []) }
+        (placed subject.entry.word ∷ placed object.entry.word ∷ placed allow.entry ∷ []) }
 {
-    if let Some(fault) = fault_of_subject(subject) {
+    if let Some(fault) = fault_of_judged_subject(subject) {
         return Err(BadLine { line, fault });
     }
-    if let Some(fault) = fault_of_object(object) {
+    if let Some(fault) = fault_of_judged_object(object) {
         return Err(BadLine { line, fault });
     }
     match fault_of_allow(allow) {
         Some(fault) => Err(BadLine { line, fault }),
         None => Ok(RuleLine {
             line,
-            subject,
-            object,
+            subject: subject.word,
+            object: object.word,
             allow,
             deny: None,
         }),
@@ -53,10 +56,10 @@ pub(crate) fn read_long<'a>(line: u32, text: Part<'a>) -> Result<RuleLine<'a>, B
     requires { Fits text }
     ensures { seen result ≡ long_line line (words_of is_blank text.entry) }
 {
-    let Some((subject, rest)) = split_word(text, Separator::Blank) else {
+    let Some((subject, rest)) = split_label(text) else {
         return wrong_fields(line, 0);
     };
-    let Some((object, rest)) = split_word(rest, Separator::Blank) else {
+    let Some((object, rest)) = split_label(rest) else {
         return wrong_fields(line, 1);
     };
     let Some((allow, rest)) = split_word(rest, Separator::Blank) else {
@@ -86,15 +89,17 @@ fn with_deny<'a>(rule: RuleLine<'a>, deny: Part<'a>) -> Result<RuleLine<'a>, Bad
 
 fn judge_change<'a>(
     line: u32,
-    subject: Part<'a>,
-    object: Part<'a>,
+    subject: JudgedWord<'a>,
+    object: JudgedWord<'a>,
     allow: Part<'a>,
     deny: Part<'a>,
 ) -> Result<RuleLine<'a>, BadLine>
     requires allow_fits { Fits allow }
     requires deny_fits { Fits deny }
+    requires subject { IsJudged subject }
+    requires object { IsJudged object }
     ensures { seen result ≡ change_line line
-        (placed subject.entry ∷ placed object.entry ∷ placed allow.entry ∷ placed deny.entry ∷ []) }
+        (placed subject.entry.word ∷ placed object.entry.word ∷ placed allow.entry ∷ placed deny.entry ∷ []) }
 {
     match judge_long(line, subject, object, allow) {
         Err(bad) => Err(bad),
@@ -107,10 +112,10 @@ pub(crate) fn read_change<'a>(line: u32, text: Part<'a>) -> Result<RuleLine<'a>,
     requires { Fits text }
     ensures { seen result ≡ change_line line (words_of is_blank text.entry) }
 {
-    let Some((subject, rest)) = split_word(text, Separator::Blank) else {
+    let Some((subject, rest)) = split_label(text) else {
         return wrong_fields(line, 0);
     };
-    let Some((object, rest)) = split_word(rest, Separator::Blank) else {
+    let Some((object, rest)) = split_label(rest) else {
         return wrong_fields(line, 1);
     };
     let Some((allow, rest)) = split_word(rest, Separator::Blank) else {

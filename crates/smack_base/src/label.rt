@@ -39,17 +39,22 @@ pub enum LabelFault {
 fn is_of_label(b: u8) -> bool
     ensures { result ≡ is_label_byte b }
 {
-    b.is_ascii_graphic() && b != b'/' && b != b'\\' && b != b'\'' && b != b'"'
-}
-
-fn first_bad(bytes: &[u8]) -> Option<usize>
-    ensures place { result ≡ position (λ b. not (is_label_byte b)) bytes.now }
-    ensures within { IfSome result (λ at. at < length bytes.now) }
-{
-    bytes.iter().position(|b| !is_of_label(*b))
+    if b > b'/' {
+        b <= b'~' && b != b'\\'
+    } else {
+        b > b' ' && b != b'/' && b != b'\'' && b != b'"'
+    }
 }
 
 impl Label {
+    /// The place of the first byte of a text that no label has.
+    pub fn first_bad(bytes: &[u8]) -> Option<usize>
+        ensures place { result ≡ position (λ b. not (is_label_byte b)) bytes.now }
+        ensures within { IfSome result (λ at. at < length bytes.now) }
+    {
+        bytes.iter().position(|b| !is_of_label(*b))
+    }
+
     /// The first fault of a text as a label; None exactly where it is a label. The text is judged
     /// where it lies.
     pub fn fault(bytes: &[u8]) -> Option<LabelFault>
@@ -64,7 +69,7 @@ impl Label {
         if bytes[0] == b'-' {
             return Some(LabelFault::LeadingDash);
         }
-        match first_bad(bytes) {
+        match Label::first_bad(bytes) {
             Some(at) => Some(LabelFault::BadByte { at: at as u32 }),
             None => None,
         }
