@@ -2,7 +2,7 @@ use Rattle.std.proofs.Common.{◌≡◌, ◌≤◌, ◌<◌, ◌==◌, nat_lt, �
 use Rattle.std.proofs.lemmas.Bool.{cases_Bool, ne_eqb, le-ltb}
 use Rattle.std.proofs.lemmas.Bool.Decides.{nat_tests}
 use Rattle.std.proofs.lemmas.List.{length-take}
-use Rattle.std.specs.List.{position, position_or_len}
+use Rattle.std.specs.List.{position_or_len}
 use Rattle.smack_base.specs.Labels.{is_label_byte, begins_with_dash, label_fault}
 use Rattle.text_spec.specs.Texts.{is_blank, begins_word}
 use Rattle.rule_text.proofs.Places.{one_more, place_more, place_within}

@@ -42,9 +42,9 @@ pub(crate) fn fault_of_allow(allow: Part) -> Option<LineFault>
     requires { Fits allow }
     ensures { result ≡ allow_fault (placed allow.entry) }
 {
-    match Modes::read(allow.bytes) {
-        Ok(_) => None,
-        Err(bad) => Some(LineFault::Allow { at: bad.at }),
+    match Modes::first_bad(allow.bytes) {
+        Some(at) => Some(LineFault::Allow { at: at as u32 }),
+        None => None,
     }
 }
 
@@ -52,9 +52,9 @@ pub(crate) fn fault_of_deny(deny: Part) -> Option<LineFault>
     requires { Fits deny }
     ensures { result ≡ deny_fault (placed deny.entry) }
 {
-    match Modes::read(deny.bytes) {
-        Ok(_) => None,
-        Err(bad) => Some(LineFault::Deny { at: bad.at }),
+    match Modes::first_bad(deny.bytes) {
+        Some(at) => Some(LineFault::Deny { at: at as u32 }),
+        None => None,
     }
 }
 

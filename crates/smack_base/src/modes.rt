@@ -1,4 +1,4 @@
-ghost use Rattle.std.specs.Prelude.{◌≡◌, ◌<◌, ◌^◌, ◌≤◌, ◌++◌, ◌∷◌, [], length, MatchResult, Some, None};
+ghost use Rattle.std.specs.Prelude.{◌≡◌, ◌<◌, ◌^◌, ◌≤◌, ◌++◌, ◌∷◌, [], length, IfSome, MatchResult, Some, None};
 ghost use Rattle.smack_base.specs.Modes.{modes_of, letters_of, is_letter, bad_letter, is_modes, holds, union, without, when};
 
 use std::marker::Model;
@@ -33,12 +33,6 @@ fn is_mode_letter(b: u8) -> bool
         b,
         b'r' | b'R' | b'w' | b'W' | b'x' | b'X' | b'a' | b'A' | b't' | b'T' | b'b' | b'B' | b'-'
     )
-}
-
-fn first_bad(bytes: &[u8]) -> Option<usize>
-    ensures { result ≡ bad_letter bytes.now }
-{
-    bytes.iter().position(|b| !is_mode_letter(*b))
 }
 
 impl Modes {
@@ -76,11 +70,19 @@ impl Modes {
         Ok(modes)
     }
 
+    /// The place of the first byte of a text that is no mode letter and no `-`.
+    pub fn first_bad(bytes: &[u8]) -> Option<usize>
+        ensures place { result ≡ bad_letter bytes.now }
+        ensures within { IfSome result (λ at. at < length bytes.now) }
+    {
+        bytes.iter().position(|b| !is_mode_letter(*b))
+    }
+
     /// Whether a text is a mode set: it has no byte but mode letters and `-`.
     pub fn are_letters(bytes: &[u8]) -> bool
         ensures { result ≡ is_modes bytes.now }
     {
-        first_bad(bytes).is_none()
+        Modes::first_bad(bytes).is_none()
     }
 
     /// The set of the letters that stand in a text, whatever else stands there.
