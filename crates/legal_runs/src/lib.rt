@@ -1,0 +1,12 @@
+//! What the tasks of a script did at a kernel is a legal record for the script.
+//!
+//! Laws of the definitions alone: `parse` of script_spec, `Ran` of task_runs, `IsWhole` and `Closes` of smack_kernel, and
+//! `IsLegalFor` of legal_spec. A law is the contract of a function without a body.
+#![tactic(auto)]
+
+ghost use Rattle.legal_runs.specs.Laws.{RunsAreWhole};
+
+/// The law: however far the tasks of a script came, the first task may close the kernel.
+pub fn runs_are_whole()
+    ensures { RunsAreWhole }
+{}
