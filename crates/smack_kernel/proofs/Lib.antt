@@ -5,5 +5,6 @@ pub mod Worlds
 pub mod OwnCreds
 pub mod Tasks
 pub mod Turning
+pub mod Forking
 pub mod Counts
 pub mod Texts

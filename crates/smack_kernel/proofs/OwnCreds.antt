@@ -1,12 +1,12 @@
 -- What a step does to the credentials of its caller.
-use Rattle.std.proofs.Common.{◌≡◌, ℕ, zero, suc, ◌<◌, ◌≤◌, true, false, List, [], ◌∷◌, ◌++◌, length, Option, Some, None, refl, sym, ap, subst, ◌∙◌, arith}
+use Rattle.std.proofs.Common.{◌≡◌, ℕ, zero, suc, ◌<◌, true, false, List, [], ◌∷◌, ◌++◌, length, Option, Some, None, refl, sym, ap, ◌∙◌, arith}
 use Rattle.std.specs.Prelude.{nat_lt, not, Result, Ok, Err, IfOk}
 use Rattle.std.specs.List.{slice_get}
 use Rattle.std.specs.Option.{option_map}
 use Rattle.std.proofs.lemmas.Bool.{lt-ltb}
 use Rattle.rules_spec.specs.declared.Verdict.{Verdict}
 use Rattle.rules_spec.specs.Rulings.{Ruling}
-use Rattle.rules_spec.specs.Creds.{Creds, is_effective, with_label, without_cap, with_self_rules, most_self_rules, most_relabels}
+use Rattle.rules_spec.specs.Creds.{Creds, is_effective, without_cap, with_self_rules, most_self_rules, most_relabels}
 use Rattle.smack_base.specs.declared.ids.LabelId.{LabelId}
 use Rattle.smack_base.specs.declared.ids.Pid.{Pid}
 use Rattle.smack_base.specs.declared.cap.Cap.{Cap}
@@ -17,14 +17,13 @@ use Rattle.world_spec.specs.declared.Call.TheVariants.{Task, Tree}
 use Rattle.world_spec.specs.declared.TaskCall.TheVariants.{Fork, Exit, Relabel, DropCap, SelfRules, Relabels, Kill, Take, TraceRead, TraceAttach}
 use Rattle.world_spec.specs.declared.TreeCall.{TreeCall}
 use Rattle.world_spec.specs.declared.TreeCall.TheVariants.{Create, Unlink, ListDir}
-use Rattle.world_spec.specs.declared.Part.{Part}
 use Rattle.world_spec.specs.declared.Part.TheVariants.{Refuses}
 use Rattle.world_spec.specs.declared.Why.TheVariants.{NoSuchTask, NotPrivileged, SelfFull, RelabelFull}
 use Rattle.world_spec.specs.declared.Reply.{Reply}
 use Rattle.world_spec.specs.declared.Reply.TheVariants.{Ok as Done, Child, Signal, Names, Denied, Refused}
 use Rattle.world_spec.specs.Worlds.{World, TaskRow, creds_in, creds_or_first, creds_of, changed_at, live_task, is_live, task_begun}
 use Rattle.world_spec.specs.Questions.{asks}
-use Rattle.world_spec.specs.Steps.{Effect, went, verdict_of, relabelled, signalled, effect, stepped, step}
+use Rattle.world_spec.specs.Steps.{Effect, went, verdict_of, relabelled, signalled, effect, stepped}
 use Rattle.smack_kernel.specs.Creds.{creds_left, ArePrepared}
 use Rattle.smack_kernel.proofs.Worlds.{IsStop, Stops, went_stops, through}
 

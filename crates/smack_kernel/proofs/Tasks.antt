@@ -1,4 +1,4 @@
-use Rattle.std.proofs.Common.{◌≡◌, ℕ, ◌+◌, ◌<◌, ◌≤◌, true, false, if◌then◌else◌, List, [], ◌∷◌, ◌++◌, ◌⊎◌, ⊎_elim, length, sym, refl, ap, ◌∙◌, subst, append-nil, arith}
+use Rattle.std.proofs.Common.{◌≡◌, ℕ, ◌+◌, ◌<◌, ◌≤◌, true, false, if◌then◌else◌, List, [], ◌∷◌, ◌++◌, ⊎_elim, sym, refl, ap, ◌∙◌, subst, append-nil, arith}
 use Rattle.std.specs.Prelude.{Result, Ok, Err, OnErr, nat_lt}
 use Rattle.std.proofs.lemmas.Bool.Decides.{nat_tests}
 use Rattle.atomic_table.specs.Seated.{TableId}
@@ -8,11 +8,11 @@ use Rattle.rule_fold.specs.Index.{IndexValue, StandsFor}
 use Rattle.world_spec.specs.declared.Entry.{Entry}
 use Rattle.world_spec.specs.Replays.{replay_of}
 use Rattle.live_table.specs.declared.view.View.{View}
-use Rattle.live_table.specs.Lists.{Begins, Has, here, there, rest_of}
+use Rattle.live_table.specs.Lists.{Begins, Has, here, rest_of}
 use Rattle.live_table.specs.Machines.{entries_by}
 use Rattle.live_table.specs.Core.{opening_view}
 use Rattle.live_table.specs.Seats.{SeatValue, NoticeValue, Rests, Sees, Hears as HearsView}
-use Rattle.live_table.specs.Batches.{batches_by, rows_of}
+use Rattle.live_table.specs.Batches.{rows_of}
 use Rattle.live_table.proofs.Lists.{begins_self, has_either}
 use Rattle.live_table.proofs.Cuts.{cut_within}
 use Rattle.smack_kernel.specs.Histories.{world_means}
@@ -21,7 +21,7 @@ use Rattle.smack_kernel.specs.Growth.{IsPublished}
 use Rattle.smack_kernel.specs.declared.publishing.Published.{Published}
 use Rattle.smack_kernel.specs.declared.publishing.Published.TheVariants as published
 use Rattle.smack_kernel.specs.declared.index.Index.{Index}
-use Rattle.smack_kernel.specs.Tasks.{TaskValue, ToldValue, AreSeen, IsTask, IsTold, Does, Hears, Adopts, task_of}
+use Rattle.smack_kernel.specs.Tasks.{ToldValue, AreSeen, IsTask, IsTold, Does, Hears, Adopts, task_of}
 use Rattle.smack_kernel.proofs.Indexes.{stands_first, stands_longer, stands_within, stands_rows}
 use Rattle.smack_kernel.proofs.Growing.{grows_by}
 use Rattle.smack_kernel.proofs.Worlds.{IsLive, live_kept, seen_longer}

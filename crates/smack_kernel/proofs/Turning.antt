@@ -1,5 +1,5 @@
 -- What a turn comes to.
-use Rattle.std.proofs.Common.{◌≡◌, ◌≢◌, ℕ, ◌+◌, ◌<◌, ◌≤◌, true, false, List, [], ◌∷◌, ◌++◌, length, Option, Some, None, refl, sym, ap, subst, ◌∙◌, arith, append-nil, append_assoc, length-append}
+use Rattle.std.proofs.Common.{◌≡◌, ℕ, ◌+◌, ◌<◌, ◌≤◌, true, false, List, [], ◌∷◌, ◌++◌, length, None, refl, sym, ap, subst, ◌∙◌, arith, append-nil, length-append}
 use Rattle.std.specs.Prelude.{Result, Ok, Err, IfOk, IfErr, OnErr, OnOk}
 use Rattle.rules_spec.specs.declared.Batch.{Batch}
 use Rattle.rules_spec.specs.Creds.{Creds}
@@ -7,16 +7,15 @@ use Rattle.rules_spec.specs.Rulings.{ruling}
 use Rattle.rule_fold.specs.Index.{IndexValue}
 use Rattle.world_spec.specs.declared.Call.{Call}
 use Rattle.world_spec.specs.declared.Entry.{Entry}
-use Rattle.world_spec.specs.declared.Reply.{Reply}
-use Rattle.world_spec.specs.Worlds.{World, creds_of}
+use Rattle.world_spec.specs.Worlds.{creds_of}
 use Rattle.world_spec.specs.Steps.{step}
 use Rattle.world_spec.specs.Replays.{StandsOver, replay_of}
 use Rattle.smack_world.specs.Stepping.{WorldValue, most_entries}
 use Rattle.smack_world.specs.Stepping as stepping
 use Rattle.live_table.specs.declared.view.View.{View}
-use Rattle.live_table.specs.Lists.{Begins, Has, here, there, rest_of, those_of}
+use Rattle.live_table.specs.Lists.{Begins, Has, here, there, rest_of}
 use Rattle.live_table.specs.Batches.{batches_by}
-use Rattle.live_table.specs.Machines.{last_version, entries_by}
+use Rattle.live_table.specs.Machines.{entries_by}
 use Rattle.live_table.specs.Plays.{MayEnter, MayGive, at_turn, given}
 use Rattle.live_table.specs.Seats.{SeatValue, Rests, Turns}
 use Rattle.live_table.proofs.Lists.{begins_self, begins_more, begins_trans, those-append, those_none, those_all}
@@ -26,8 +25,9 @@ use Rattle.smack_kernel.specs.Growth.{Grows, Enters, entry_of}
 use Rattle.smack_kernel.specs.declared.turns.Entered.{Entered}
 use Rattle.smack_kernel.specs.declared.turns.Turned.{Turned}
 use Rattle.smack_kernel.specs.declared.turns.Turned.TheVariants as turned
-use Rattle.smack_kernel.specs.Tasks.{TaskValue, AreSeen, IsTask, Does, Stays, Calls, task_of, next_entry}
+use Rattle.smack_kernel.specs.Tasks.{AreSeen, IsTask, Stays, Calls, task_of}
 use Rattle.smack_kernel.specs.Turns.{IsMade, IsTurned}
+use Rattle.smack_kernel.specs.Forks.{task_made}
 use Rattle.smack_kernel.specs.Answers.{is_fork}
 use Rattle.smack_kernel.proofs.Indexes.{stands_within}
 use Rattle.smack_kernel.proofs.Growing.{grows_by}
@@ -68,9 +68,15 @@ module _ (journal : List Batch) (m m' : WorldValue) (task seq : ℕ) (call : Cal
   alive_made (Err e) h none k low = subst (λ (z : WorldValue). k < length z.world.tasks) (sym none) low
 
   -- a call that is no fork makes no task
-  pub none_made : (r : Entered) → IsMade m m' (ruling journal) task seq call (turned.Entry r) → is_fork call ≡ false
+  none_made : (r : Entered) → IsMade m m' (ruling journal) task seq call (turned.Entry r) → is_fork call ≡ false
       → child_of r.reply ≡ None
   none_made r h plain = ap child_of h.0.4 ∙ next_plain _ _ _ _ (step_makes m.world (ruling journal) task call) plain
+
+  pub plain_made : {E : Type 0} (r : Outcome E) → IfOk r (IsMade m m' (ruling journal) task seq call)
+      → is_fork call ≡ false → IfOk r (λ q. task_made q ≡ None)
+  plain_made (Ok (turned.Entry r)) h plain = none_made r h plain
+  plain_made (Ok (turned.TrailFull back)) h plain = refl
+  plain_made (Err e) h plain = tt
 
 -- a task takes the turn: it then has this view, and the machine is the world x
 module _ {s : SeatValue Entry} {rules : IndexValue} {rows : ℕ} {creds : Creds} (task : IsTask s rules rows creds)
@@ -81,7 +87,7 @@ module _ {s : SeatValue Entry} {rules : IndexValue} {rows : ℕ} {creds : Creds}
   theirs : (k : ℕ) → Has k (rest_of s.view.numbers) → Has k s.view.numbers
   theirs k h = subst (Has k) (sym task.numbered) (there h)
 
-  world_is : x.world ≡ replay_of w.journal w.history
+  pub world_is : x.world ≡ replay_of w.journal w.history
   world_is = t.stands.world ∙ ap (replay_of w.journal) t.is
 
   -- the machine has the task, with its credentials
@@ -149,33 +155,34 @@ module _ {s : SeatValue Entry} {rules : IndexValue} {rows : ℕ} {creds : Creds}
           (λ y i same. task.apart (subst (λ z. Has z (rest_of s.view.numbers))
           (sym same ∙ (ap (λ (y : Entry). y.task) (only_one i) ∙ own)) h))
 
-  -- the turn may be given back with the entry of a call that is no fork, or with none
-  pub may_give : {E : Type 0} (m' : WorldValue) (seq : ℕ) (call : Call) (r : Outcome E) → is_fork call ≡ false
+  -- the turn may be given back with the entry of a call that made no task, or with none
+  pub may_give : {E : Type 0} (m' : WorldValue) (seq : ℕ) (call : Call) (r : Outcome E)
+      → IfOk r (λ q. task_made q ≡ None)
       → IfOk r (IsMade x m' (ruling w.journal) s.number seq call) → OnErr r (m' ≡ x)
       → StandsOver w.journal m'.trail m'.world → MayGive world_means w m' (entries_made s.number seq call r)
-  may_give {E} m' seq call r plain made none stands = record {
+  may_give {E} m' seq call r childless made none stands = record {
     history = trail_made w.journal x m' s.number seq call r made none ∙ ap (λ l. l ++ entries_made s.number seq call r) t.is;
     stands = stands;
-    entry = entry r made;
+    entry = entry r childless made;
   }
     where
       quiet : w.noticed ≡ false
       quiet = ap (λ (z : View Entry). z.noticed) t.view
 
-      entry : (r : Outcome E) → IfOk r (IsMade x m' (ruling w.journal) s.number seq call)
+      entry : (r : Outcome E) → IfOk r (λ q. task_made q ≡ None) → IfOk r (IsMade x m' (ruling w.journal) s.number seq call)
           → Rattle.live_table.specs.Plays.IsTurn world_means w m' (entries_made s.number seq call r)
-      entry (Ok (turned.Entry r)) made = record {
+      entry (Ok (turned.Entry r)) childless made = record {
         number = s.number;
         ended = rest_of s.view.numbers;
         numbers = turn_numbers;
         own = refl;
         within = let now = made.1 in omega arith;
         late = let now = made.1 in let recent = t.recent in omega arith;
-        no_child = λ _. none_made w.journal x m' s.number seq call r made plain;
+        no_child = λ _. childless;
         child = λ e. absurd (let f : true ≡ false = sym e ∙ quiet in cc);
       }
-      entry (Ok (turned.TrailFull back)) made = quiet
-      entry (Err e) made = quiet
+      entry (Ok (turned.TrailFull back)) childless made = quiet
+      entry (Err e) childless made = quiet
 
 -- what a seat is that gave the turn back with a world that stands for what it has seen
 pub task_given : {s s' : SeatValue Entry} {rules rules' : IndexValue} {rows rows' : ℕ} {creds creds' : Creds}

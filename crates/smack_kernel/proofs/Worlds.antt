@@ -1,10 +1,8 @@
 -- What a step does to the number of tasks, and what a replay keeps of a task.
-use Rattle.std.proofs.Common.{◌≡◌, ◌≢◌, ℕ, zero, suc, ◌+◌, ◌<◌, ◌≤◌, ◌==◌, Bool, true, false, if◌then◌else◌, List, [], ◌∷◌, ◌++◌, length, fold, Option, Some, None, refl, sym, ap, subst, ◌∙◌, arith, length-append, eq-eqb, ne_eqb}
+use Rattle.std.proofs.Common.{◌≡◌, ◌≢◌, ℕ, zero, suc, ◌+◌, ◌<◌, ◌≤◌, Bool, true, false, if◌then◌else◌, List, [], ◌∷◌, ◌++◌, length, fold, Option, Some, None, refl, sym, ap, subst, ◌∙◌, arith, length-append, eq-eqb, ne_eqb}
 use Rattle.std.proofs.lemmas.Bool.Decides.{nat_tests}
 use Rattle.std.proofs.lemmas.List.Sums.{fold-append}
 use Rattle.std.specs.Prelude.{nat_le, not}
-use mathlib.Core.Logic.{dite}
-use native.Mathlib.Decide.{ℕ_discrete}
 use Rattle.rules_spec.specs.declared.Batch.{Batch}
 use Rattle.rules_spec.specs.declared.Verdict.{Verdict}
 use Rattle.rules_spec.specs.Rulings.{Ruling}
@@ -28,7 +26,7 @@ use Rattle.world_spec.specs.Steps.{Effect, Went, went, asked, verdict_of, signal
 use Rattle.world_spec.specs.Replays.{AreSteps, StandsOver, version_of, step_of, after_entry, replay_of, makes}
 use Rattle.world_replays.proofs.Keeping.{others_keep}
 use Rattle.world_replays.proofs.Standing.{longer_stands}
-use Rattle.live_table.specs.Lists.{Begins, those_of}
+use Rattle.live_table.specs.Lists.{Begins}
 use Rattle.live_table.specs.Machines.{made, entries_by, makes as counts}
 use Rattle.live_table.proofs.Lists.{those-append}
 use Rattle.smack_kernel.specs.Histories.{world_means, child_of}
@@ -119,7 +117,7 @@ effect_makes w version task (Tree (Create path)) none = refl
 effect_makes w version task (Tree (Unlink path)) none = refl
 effect_makes w version task (Tree (ListDir path at)) none = refl
 
-stop_child : (reply : Reply) → IsStop reply → child_of reply ≡ None
+pub stop_child : (reply : Reply) → IsStop reply → child_of reply ≡ None
 stop_child Done s = absurd s
 stop_child (Child n) s = absurd s
 stop_child (Signal sig) s = absurd s

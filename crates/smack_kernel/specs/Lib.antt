@@ -5,4 +5,5 @@ pub mod Growth
 pub mod Creds
 pub mod Tasks
 pub mod Turns
+pub mod Forks
 pub mod Answers

@@ -1,8 +1,9 @@
 ghost use Rattle.std.specs.Prelude.{◌≡◌, ◌<◌, ◌+◌, length, false, IfOk, IfErr, OnOk, OnErr};
 ghost use Rattle.smack_kernel.specs.Tasks.{first_task, most_calls, Stays, Hears, Adopts, Loads, LoadsOnce};
-ghost use Rattle.smack_kernel.specs.Answers.{ArePackedOps, IsAsked, is_fork, IsCalled, IsOpsWritten, IsOwnWritten, IsWritten, IsMarked, IsSeqFull, IsWhole, Closes};
+ghost use Rattle.smack_kernel.specs.Answers.{ArePackedOps, IsAsked, is_fork, IsCalled, IsForked, IsOpsWritten, IsOwnWritten, IsWritten, IsMarked, IsSeqFull, IsWhole, Closes};
 
 use crate::closed::Closed;
+use crate::forks::branch;
 use crate::index::{Index, look};
 use crate::publishing::{self, publish};
 use crate::task::{Notice, Task};
@@ -12,7 +13,7 @@ use file_spec::{Compiled, Refusal};
 use label_table::Labels;
 use live_table::LiveTable;
 use rules_spec::{Batch, Verdict};
-use smack_base::{LabelId, Modes, RuleOps};
+use smack_base::{LabelId, Modes, Pid, RuleOps};
 use smack_decide::cases;
 use smackfs::{TextFault, compile};
 use std::alloc::{AllocError, Global};
@@ -195,6 +196,49 @@ impl Kernel {
             }
             Ok(Turned::TrailFull(call)) => Ok(Called::TrailFull(call)),
             Err(error) => Err(error),
+        }
+    }
+
+    /// Makes the object call `Fork`. Where its reply is `Child`, the child is handed out: it has the
+    /// number that the reply names, its parent's credentials and rules as they are after the call, and
+    /// has seen all that its parent then has, the entry of the fork among it. On want of memory there
+    /// is no entry.
+    pub fn fork<R: Wait, L: Ledger>(
+        &self,
+        rt: &R,
+        alloc: Global,
+        task: &mut Task,
+        pid: Pid,
+        steps: &mut Steps<L>,
+    ) -> Result<(Called, Option<Task>), AllocError>
+        requires { task.old.table ≡ self.now.table }
+        ensures same { (task.new.table ≡ task.old.table) × (task.new.number ≡ task.old.number) }
+        ensures forked { IfOk result (λ r. IsForked task.old task.new pid r.0 r.1) }
+        ensures stays { OnErr result (Stays task.old task.new) }
+        ensures loads { Loads task.old task.new steps.old steps.new }
+        ensures once { OnOk result (LoadsOnce task.old task.new steps.old steps.new) }
+    {
+        if task.made >= MOST_CALLS {
+            let call = Call::Task(TaskCall::Fork { pid });
+            return Ok((Called::SeqFull(call), None));
+        }
+        let (turned, child) = branch(
+            rt,
+            alloc,
+            &self.table,
+            &mut task.seat,
+            &mut task.index,
+            &mut task.creds,
+            task.made,
+            pid,
+            steps,
+        )?;
+        match turned {
+            Turned::Entry(entered) => {
+                task.made += 1;
+                Ok((Called::Entry(entered), child))
+            }
+            Turned::TrailFull(call) => Ok((Called::TrailFull(call), child)),
         }
     }
 

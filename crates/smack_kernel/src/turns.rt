@@ -49,7 +49,7 @@ pub(crate) enum Turned {
 
 /// Makes a call of a task on the world, in the version of `rules`. The credentials are those of the
 /// task in the world, before and after it. On want of memory nothing changes.
-fn make_call(
+pub(crate) fn make_call(
     alloc: Global,
     rules: &RuleIndex,
     creds: &mut Cred,

@@ -1,4 +1,4 @@
-use Rattle.std.proofs.Common.{sym, subst, ap, ◌∙◌, None, Some}
+use Rattle.std.proofs.Common.{sym, subst, None, Some}
 use Rattle.std.specs.Prelude.{IfOk}
 use Rattle.rule_fold.specs.Index.{ruling_of}
 use Rattle.world_spec.specs.declared.Call.TheVariants.{Task}

@@ -1,4 +1,4 @@
-use Rattle.std.proofs.Common.{arith, ap, sym, subst, ◌∙◌, ◌≡◌, ◌≤◌, ◌+◌, ◌++◌}
+use Rattle.std.proofs.Common.{arith, ap, sym, subst, ◌∙◌, ◌≡◌, ◌+◌, ◌++◌}
 use Rattle.std.specs.Prelude.{IfOk}
 use Rattle.rules_spec.specs.Rulings.{ruling}
 use Rattle.world_spec.specs.declared.Entry.{Entry}
@@ -9,7 +9,7 @@ use Rattle.live_table.specs.Seats.{SeatValue}
 use Rattle.smack_kernel.specs.Histories.{world_means}
 use Rattle.smack_kernel.specs.Turns.{IsMade}
 use Rattle.smack_kernel.proofs.Worlds.{IsLive}
-use Rattle.smack_kernel.proofs.Turning.{entries_made, trail_made, turn_live, may_give, task_turned, turned_all, back_all}
+use Rattle.smack_kernel.proofs.Turning.{entries_made, trail_made, plain_made, turn_live, may_give, task_turned, turned_all, back_all}
 use Rattle.smack_kernel.proofs.turns.enter.Goals as goal
 
 pub call_in_turn-turned-requires-clause-alive : goal.call_in_turn-turned-requires-clause-alive
@@ -46,7 +46,8 @@ give_turn-requires-clause-may g c =
     let entries = entries_made s.number seq call r in (
       entries,
       subst (λ (z : SeatValue Entry). MayGive world_means z.view m' entries) (sym e.same)
-          (may_give c.requires.task s1.view x t m' seq call r c.requires.plain made e.err e.world),
+          (may_give c.requires.task s1.view x t m' seq call r
+          (plain_made s1.view.journal x m' s.number seq call r made c.requires.plain) made e.err e.world),
     )
 
 pub returns-clause-task : goal.returns-clause-task

@@ -1,5 +1,5 @@
-use Rattle.std.proofs.Common.{arith, refl, ap, ◌≡◌, ◌<◌, ◌+◌, ◌≤◌}
-use Rattle.smack_kernel.specs.Tasks.{TaskValue, most_calls}
+use Rattle.std.proofs.Common.{arith, refl, ap, ◌+◌}
+use Rattle.smack_kernel.specs.Tasks.{TaskValue}
 use Rattle.smack_kernel.proofs.Indexes.{stands_within}
 use Rattle.smack_kernel.proofs.Tasks.{task_published, published_more, on_err}
 use Rattle.smack_kernel.proofs.kernel.Kernel.write_ops.Goals as goal

@@ -1,0 +1,218 @@
+//! What a task does in a turn that makes another task.
+ghost use Rattle.std.specs.Prelude.{◌≡◌, ◌≤◌, ◌<◌, ◌+◌, ◌++◌, ◌∷◌, [], length, is_some, true, false, IfOk, OnOk, OnErr};
+ghost use Rattle.rules_spec.specs.Rulings.{ruling};
+ghost use Rattle.world_spec.specs.declared.Entry.{Entry};
+ghost use Rattle.world_spec.specs.Worlds.{creds_of};
+ghost use Rattle.world_spec.specs.Replays.{StandsOver};
+ghost use Rattle.live_table.specs.Batches.{rows_of};
+ghost use Rattle.live_table.specs.Machines.{made as tasks_made};
+ghost use Rattle.smack_kernel.specs.Histories.{world_means, child_of};
+ghost use Rattle.smack_kernel.specs.Indexes.{StandsAt};
+ghost use Rattle.smack_kernel.specs.Tasks.{IsTask, Stays, task_of};
+ghost use Rattle.smack_kernel.specs.Turns.{IsMade};
+ghost use Rattle.smack_kernel.specs.Forks.{task_made, IsBranched, MayFork, Drew, Forks};
+
+use crate::index::{Index, read_up};
+use crate::task::Task;
+use crate::turns::{Turned, make_call};
+use crate::world_machine::WorldMachine;
+use live_table::{LiveTable, TaskSeat};
+use smack_base::{Duplicate, Pid};
+use std::alloc::{AllocError, Global};
+use std::sync::Wait;
+use std::sync::ledger::Ledger;
+use step_count::Steps;
+use task_creds::Cred;
+use world_spec::{Call, Reply, TaskCall};
+
+/// What a child has of its parent.
+#[derive(Drop)]
+struct Heritage {
+    index: Index,
+    creds: Cred,
+}
+
+/// Copies of a parent's rules and credentials.
+fn inherit(index: &Index, creds: &Cred) -> Result<Heritage, AllocError>
+    ensures index { IfOk result (λ h. h.index ≡ index.now) }
+    ensures creds { IfOk result (λ h. h.creds ≡ creds.now) }
+{
+    let rules = index.rules.copy()?;
+    let creds = creds.copy()?;
+    Ok(Heritage {
+        index: Index {
+            rules,
+            rows: index.rows,
+        },
+        creds,
+    })
+}
+
+fn is_child(reply: &Reply) -> bool
+    ensures { result ≡ is_some (child_of reply.now) }
+{
+    match reply {
+        Reply::Child(_) => true,
+        Reply::Ok => false,
+        Reply::Signal(_) => false,
+        Reply::Names { count: _, names: _ } => false,
+        Reply::Denied(_) => false,
+        Reply::Refused(_) => false,
+    }
+}
+
+/// Whether a call made a task.
+fn makes_task(turned: &Turned) -> bool
+    ensures { result ≡ is_some (task_made turned.now) }
+{
+    match turned {
+        Turned::Entry(entered) => is_child(&entered.reply),
+        Turned::TrailFull(_) => false,
+    }
+}
+
+/// Reads up, copies what a child is to have, and makes the fork, while the seat has the turn.
+fn fork_in_turn<L: Ledger>(
+    alloc: Global,
+    table: &LiveTable<WorldMachine>,
+    seat: &mut TaskSeat<WorldMachine>,
+    index: &mut Index,
+    creds: &mut Cred,
+    machine: &mut WorldMachine,
+    seq: u32,
+    pid: Pid,
+    steps: &mut Steps<L>,
+) -> Result<(Turned, Heritage), AllocError>
+    requires table { seat.old.table ≡ table.now }
+    requires stands { StandsAt index.old.rules index.old.rows seat.old.view.journal }
+    requires world { StandsOver seat.old.view.journal machine.old.trail machine.old.world }
+    requires alive { seat.old.number < length machine.old.world.tasks }
+    requires creds { creds.old ≡ creds_of machine.old.world seat.old.number }
+    ensures same { seat.new ≡ seat.old }
+    ensures stands { StandsAt index.new.rules index.new.rows seat.old.view.journal }
+    ensures later { index.old.rules.version ≤ index.new.rules.version }
+    ensures whole { OnOk result (index.new.rules.version ≡ length seat.old.view.journal) }
+    ensures made { IfOk result (λ r. IsMade machine.old machine.new (ruling seat.old.view.journal) seat.old.number seq (Call.Task (TaskCall.Fork pid)) r.0) }
+    ensures heritage { IfOk result (λ r. (r.1.index ≡ index.new) × (r.1.creds ≡ creds.old)) }
+    ensures world { StandsOver seat.old.view.journal machine.new.trail machine.new.world }
+    ensures creds { creds.new ≡ creds_of machine.new.world seat.old.number }
+    ensures err { OnErr result (machine.new ≡ machine.old) }
+    ensures cost { steps.new + index.old.rows ≤ steps.old + rows_of seat.old.view.journal }
+    ensures once { OnOk result (steps.new + index.old.rows ≤ steps.old + index.new.rows) }
+{
+    read_up(alloc, table, seat, index, steps)?;
+    let heritage = inherit(index, creds)?;
+    let call = Call::Task(TaskCall::Fork { pid });
+    match make_call(
+        alloc,
+        &index.rules,
+        creds,
+        machine,
+        seat.number(),
+        seq,
+        call,
+    ) {
+        Ok(turned) => Ok((turned, heritage)),
+        Err((fault, _)) => Err(fault),
+    }
+}
+
+/// Draws the number of a child in a turn, before any other notice of it, and lets the seat hear that
+/// it is drawn.
+fn draw(
+    table: &LiveTable<WorldMachine>,
+    seat: &mut TaskSeat<WorldMachine>,
+) -> TaskSeat<WorldMachine>
+    requires table { seat.old.table ≡ table.now }
+    requires turn { (seat.old.view.turn ≡ true) × (seat.old.view.noticed ≡ false) }
+    requires few { tasks_made world_means seat.old.view.history + 1 < 4096 }
+    ensures same { (seat.new.table ≡ seat.old.table) × (seat.new.number ≡ seat.old.number) × (result.table ≡ seat.old.table) }
+    ensures drew { Drew seat.old.view seat.new.view result.view result.number }
+{
+    let note = table.notice(seat);
+    let mut child = table.enrol(seat, note);
+    let drawn = table.notice(&mut child);
+    table.hear(seat, drawn);
+    child
+}
+
+/// Gives the turn back with an entry that makes a task: the seat of that task, which has then heard
+/// of the entry.
+fn give_with_child(
+    table: &LiveTable<WorldMachine>,
+    seat: &mut TaskSeat<WorldMachine>,
+    machine: WorldMachine,
+) -> TaskSeat<WorldMachine>
+    requires table { seat.old.table ≡ table.now }
+    requires turn { (seat.old.view.turn ≡ true) × (seat.old.view.noticed ≡ false) }
+    requires may { (e : Entry) × MayFork seat.old.view machine e }
+    ensures same { (seat.new.table ≡ seat.old.table) × (seat.new.number ≡ seat.old.number) × (result.table ≡ seat.old.table) }
+    ensures forks { (e : Entry) → machine.trail ≡ seat.old.view.history ++ e ∷ []
+        → Forks seat.old.view seat.new.view result.view result.number e }
+{
+    let mut child = draw(table, seat);
+    table.give_turn(seat, machine);
+    let told = table.notice(seat);
+    table.hear(&mut child, told);
+    child
+}
+
+/// Takes the turn, makes a fork, and gives the turn back: the child, where one was made. On want of
+/// memory there is no entry.
+pub(crate) fn branch<R: Wait, L: Ledger>(
+    rt: &R,
+    alloc: Global,
+    table: &LiveTable<WorldMachine>,
+    seat: &mut TaskSeat<WorldMachine>,
+    index: &mut Index,
+    creds: &mut Cred,
+    made: u32,
+    pid: Pid,
+    steps: &mut Steps<L>,
+) -> Result<(Turned, Option<Task>), AllocError>
+    requires table { seat.old.table ≡ table.now }
+    requires task { IsTask seat.old index.old.rules index.old.rows creds.old }
+    requires few { made < 1048575 }
+    ensures same { (seat.new.table ≡ seat.old.table) × (seat.new.number ≡ seat.old.number) }
+    ensures task { IsTask seat.new index.new.rules index.new.rows creds.new }
+    ensures branched { IfOk result (λ r. IsBranched (task_of seat.old index.old.rules made creds.old) (task_of seat.new index.new.rules made creds.new) pid r.0 r.1) }
+    ensures stays { OnErr result (Stays (task_of seat.old index.old.rules made creds.old) (task_of seat.new index.new.rules made creds.new)) }
+    ensures cost { steps.new + index.old.rows ≤ steps.old + rows_of seat.new.view.journal }
+    ensures once { OnOk result (steps.new + index.old.rows ≤ steps.old + index.new.rows) }
+{
+    let mut machine = table.take_turn(rt, seat);
+    let forked = fork_in_turn(
+        alloc,
+        table,
+        seat,
+        index,
+        creds,
+        &mut machine,
+        made + 1,
+        pid,
+        steps,
+    );
+    match forked {
+        Err(fault) => {
+            table.give_turn(seat, machine);
+            Err(fault)
+        }
+        Ok((turned, heritage)) => {
+            if !makes_task(&turned) {
+                table.give_turn(seat, machine);
+                return Ok((turned, None));
+            }
+            let child = give_with_child(table, seat, machine);
+            let Heritage { index, creds } = heritage;
+            Ok((
+                turned,
+                Some(Task {
+                    seat: child,
+                    index,
+                    made: 0,
+                    creds,
+                }),
+            ))
+        }
+    }
+}
