@@ -143,7 +143,7 @@ module _ (full : Bool) (s : Scripted) (j : List Batch) (h : List Entry) where
   wait_up m m' None g = g
   wait_up m m' (Some l) g = let x = g.0 in let y = g.1 in omega arith
 
-  abbrev lift : (ls ls' : List AskedLine) (k : ℕ) → asked_by k ls' ≡ asked_by k ls → Life full s j h ls k → Life full s j h ls' k
+  abbrev pub lift : (ls ls' : List AskedLine) (k : ℕ) → asked_by k ls' ≡ asked_by k ls → Life full s j h ls k → Life full s j h ls' k
   lift ls ls' k e L = record { pid = L.pid; calls = L.calls; rest = L.rest; fits = L.fits; done = L.done; batches = L.batches; entries = L.entries; lines = e ∙ L.lines; at = L.at; place_low = L.place_low; place_high = L.place_high; places = L.places; low = L.low; high = L.high; rises = L.rises; born = L.born }
 
   -- the life of a number, with the version that its calls reached
@@ -152,7 +152,7 @@ module _ (full : Bool) (s : Scripted) (j : List Batch) (h : List Entry) where
     pub top : life.high ≤ z
     pub place : life.place_high ≤ y
 
-  raise : (ls ls' : List AskedLine) (k z z' y y' : ℕ) → asked_by k ls' ≡ asked_by k ls → z ≤ z' → y ≤ y' → Found ls k z y → Found ls' k z' y'
+  pub raise : (ls ls' : List AskedLine) (k z z' y y' : ℕ) → asked_by k ls' ≡ asked_by k ls → z ≤ z' → y ≤ y' → Found ls k z y → Found ls' k z' y'
   raise ls ls' k z z' y y' e l l' f = record { life = lift ls ls' k e f.life; top = let x = f.top in omega arith; place = let x = f.place in omega arith }
 
   module _ (t : ℕ) (e : Entry) (n pid x : ℕ) (o c : Run) (w : Option AskedLine) (r : Run) (a z : ℕ) (p : Part t (forks e n pid x o c w r) a z) where

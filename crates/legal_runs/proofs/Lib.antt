@@ -4,3 +4,8 @@ pub mod Lives
 pub mod Kids
 pub mod Family
 pub mod Whole
+pub mod Histories
+pub mod Sorting
+pub mod Counts
+pub mod Creds
+pub mod Legal

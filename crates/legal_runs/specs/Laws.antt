@@ -1,10 +1,15 @@
-use Rattle.std.specs.Prelude.{◌≡◌, ℕ, List, [], Bool, Ok}
+use Rattle.std.specs.Prelude.{◌≡◌, ℕ, List, [], Bool, false, Ok, fold}
 use Rattle.atomic_table.specs.Seated.{TableId}
 use Rattle.script_spec.specs.Lines.{ScriptLine}
 use Rattle.script_spec.specs.Grammar.{parse}
+use Rattle.script_spec.specs.Lines.{table_of}
+use Rattle.script_spec.specs.Tasks.{task_names}
 use Rattle.record_spec.specs.declared.AskedLine.{AskedLine}
+use Rattle.record_spec.specs.declared.RunRecord.{RunRecord}
+use Rattle.replay_spec.specs.Replays.{with_asked}
+use Rattle.legal_spec.specs.Legal.{IsLegal}
 use Rattle.smack_kernel.specs.Tasks.{TaskValue, first_task}
-use Rattle.smack_kernel.specs.Answers.{IsWhole}
+use Rattle.smack_kernel.specs.Answers.{IsWhole, ClosedValue, Closes}
 use Rattle.task_runs.specs.Scripts.{scripted, lines_by}
 use Rattle.task_runs.specs.Runs.{Ran}
 
@@ -17,3 +22,20 @@ abbrev pub RunsAreWhole : Type 0
 RunsAreWhole =
     (bytes : List ℕ) (lines : List ScriptLine) → parse bytes ≡ Ok lines → (stop : Bool) (table : TableId) (w : TaskValue)
     (asked : List AskedLine) → FirstRan stop lines table w asked → IsWhole w
+
+-- the record of a script's tasks at a kernel: what the closed kernel hands out, and the asked lines by rising task
+abbrev pub run_record : List ScriptLine → ClosedValue → List AskedLine → RunRecord
+run_record lines closed asked = record {
+  labels = table_of lines;
+  names = task_names lines;
+  journal = closed.journal;
+  history = closed.history;
+  asked = fold with_asked [] asked;
+}
+
+-- it is one history of one world, under one journal of rules, in whatever order the tasks ran
+abbrev pub RunsAreLegal : Type 0
+RunsAreLegal =
+    (bytes : List ℕ) (lines : List ScriptLine) → parse bytes ≡ Ok lines → (table : TableId) (w : TaskValue) (asked : List AskedLine)
+    → FirstRan false lines table w asked → (closed : ClosedValue) → Closes (table_of lines) w closed
+    → IsLegal (run_record lines closed asked)

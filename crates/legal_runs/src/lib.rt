@@ -4,9 +4,14 @@
 //! `IsLegalFor` of legal_spec. A law is the contract of a function without a body.
 #![tactic(auto)]
 
-ghost use Rattle.legal_runs.specs.Laws.{RunsAreWhole};
+ghost use Rattle.legal_runs.specs.Laws.{RunsAreWhole, RunsAreLegal};
 
 /// The law: however far the tasks of a script came, the first task may close the kernel.
 pub fn runs_are_whole()
     ensures { RunsAreWhole }
+{}
+
+/// The law: what they came to, where none stopped, is a legal record.
+pub fn runs_are_legal()
+    ensures { RunsAreLegal }
 {}
