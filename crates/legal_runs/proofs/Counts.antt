@@ -18,7 +18,7 @@ use Rattle.task_runs.specs.Deeds.{entries_of, Deed, entered, batched, answered, 
 use Rattle.legal_runs.proofs.Deeds.{lines_of, seq_of, fits_of}
 use Rattle.legal_runs.proofs.Lives.{asked_by}
 
-count-cons : {A : Type 0} (test : A → Bool) (x : A) (xs : List A) → count_by test (x ∷ xs) ≡ cond (test x) 1 0 + count_by test xs
+pub count-cons : {A : Type 0} (test : A → Bool) (x : A) (xs : List A) → count_by test (x ∷ xs) ≡ cond (test x) 1 0 + count_by test xs
 count-cons test x xs = sum_by-cons (λ y. cond (test y) 1 0) x xs
 
 -- how many are of a number and pass is how many of that number pass
@@ -34,7 +34,7 @@ count_those {A} number test k (x ∷ xs) =
     by true rest = ap (λ n. cond (test x) 1 0 + n) rest ∙ sym (count-cons test x (those_of number k xs))
     by false rest = omega (arith, rest)
 
-count_length : {A : Type 0} (number : A → ℕ) (k : ℕ) (xs : List A) → count_by (λ x. number x == k) xs ≡ length (those_of number k xs)
+pub count_length : {A : Type 0} (number : A → ℕ) (k : ℕ) (xs : List A) → count_by (λ x. number x == k) xs ≡ length (those_of number k xs)
 count_length number k [] = refl
 count_length {A} number k (x ∷ xs) = count-cons (λ y. number y == k) x xs ∙ by (number x == k) (count_length number k xs)
   where

@@ -193,6 +193,12 @@ module _ (full : Bool) (s : Scripted) (left : List ScriptLine) (done : full ≡ 
       let same = same_stand h n b.1 e b.0 place st b.2 in
       subst (λ (x : Entry). x.version ≤ L.low) (sym same) b.4) L.born
 
+  -- a number that has a pid is one of the numbers
+  pub numbers_in : (k : ℕ) (pid : Pid) → IsNumberOf h k pid → Has k (0 ∷ numbers g.run)
+  numbers_in k pid is =
+      ⊎_elim (λ z. subst (λ x. Has x (0 ∷ numbers g.run)) (sym z.0) here)
+      (λ b. all k (let y = (child_above 0 0 b.0 h b.1 k c.legal b.2 (ap child_of b.3.1)).1 in omega arith)) is
+
   counted : (k : ℕ) → Counted s record_of k
   counted k = ⊎_elim (λ u. let L = life k u in record {
     calls = L.calls;

@@ -9,3 +9,6 @@ pub mod Sorting
 pub mod Counts
 pub mod Creds
 pub mod Legal
+pub mod Pids
+pub mod ScriptLines
+pub mod Fitting

@@ -1,0 +1,206 @@
+-- The record of a script's tasks has each of its lines as one call.
+use Rattle.std.proofs.Common.{◌≡◌, ℕ, zero, suc, ◌+◌, ◌<◌, ◌≤◌, ◌⊎◌, ◌==◌, ◌||◌, List, [], ◌∷◌, ◌++◌, length, Bool, true, false, sym, refl, ap, ◌∙◌, subst, arith, append_assoc, ⊎_elim, inl, inr, Option, Some, Ok}
+use Rattle.atomic_table.specs.Seated.{TableId}
+use Rattle.smack_base.specs.declared.ids.Pid.{Pid}
+use Rattle.rules_spec.specs.declared.Batch.{Batch}
+use Rattle.world_spec.specs.declared.Call.{Call}
+use Rattle.world_spec.specs.declared.Call.TheVariants.{Task}
+use Rattle.world_spec.specs.declared.TaskCall.TheVariants.{Fork}
+use Rattle.world_spec.specs.declared.Reply.TheVariants.{Child}
+use Rattle.world_spec.specs.declared.Entry.{Entry}
+use Rattle.world_spec.specs.Worlds.{world_first}
+use Rattle.script_spec.specs.declared.Verb.{Verb}
+use Rattle.script_spec.specs.declared.Verb.TheVariants.{Write, Ask as AskVerb, Wait as WaitVerb, Task as TaskVerbOf}
+use Rattle.script_spec.specs.declared.TaskVerb.TheVariants.{Fork as ForkVerb}
+use Rattle.script_spec.specs.Lines.{ScriptLine, word_in, verb_in, table_of}
+use Rattle.script_spec.specs.Tasks.{change_by, change_of, forked_name, task_names}
+use Rattle.record_spec.specs.declared.AskedLine.{AskedLine}
+use Rattle.record_spec.specs.declared.AskedWhat.{AskedWhat}
+use Rattle.record_spec.specs.declared.AskedWhat.TheVariants.{Ask, Refused, Wait}
+use Rattle.record_spec.specs.declared.RunRecord.{RunRecord}
+use Rattle.replay_spec.specs.Calls.{pid_in, of_one, call_by, call_of_line}
+use Rattle.replay_spec.specs.Laws.{lines_of_task}
+use Rattle.replay_spec.specs.Plain.{IsNameTable}
+use Rattle.replayed_records.proofs.InStep.{next_pid}
+use Rattle.plain_records.proofs.GoodLines.{IsGoodLine, AreGoodLines}
+use Rattle.plain_records.proofs.Tasks.{names_more, names_behind}
+use Rattle.legal_spec.specs.Calls.{Stands, IsForkOf, IsNumberOf, call_count}
+use Rattle.legal_spec.specs.Fits.{IsRecorded, batch as batch_of, entry as entry_of, asked as asked_line, HasItsLines, FitsScript}
+use Rattle.legal_spec.specs.Lines.{IsAskedOfLine}
+use Rattle.live_table.specs.Lists.{Has, here, there}
+use Rattle.live_table.proofs.Lists.{has_left, has_right}
+use Rattle.smack_kernel.specs.Histories.{world_means, child_of}
+use Rattle.smack_kernel.specs.Tasks.{TaskValue, first_task}
+use Rattle.smack_kernel.specs.Answers.{ClosedValue, Closes}
+use Rattle.task_runs.specs.Scripts.{Scripted, scripted, lines_by}
+use Rattle.task_runs.specs.Deeds.{Deed, entered, batched, answered, asked_in, Fits, FitsTo}
+use Rattle.task_runs.specs.Runs.{numbers, asked_of, Went}
+use Rattle.legal_runs.proofs.Lists.{stands_has, has_stands, has_those, those_has}
+use Rattle.legal_runs.proofs.Deeds.{lines_of, at_of}
+use Rattle.legal_runs.proofs.Lives.{asked_by, Life}
+use Rattle.legal_runs.proofs.Histories.{child_above, one_child, same_stand}
+use Rattle.legal_runs.proofs.Sorting.{in_order}
+use Rattle.legal_runs.proofs.Counts.{Counted, count_is, count_length}
+use Rattle.legal_runs.proofs.Legal.{record_of, life, numbers_in, named}
+use Rattle.legal_runs.proofs.Pids.{no_fork, one_fork}
+use Rattle.legal_runs.proofs.ScriptLines.{lines_numbered, DeedOfLine, deed_of_line, calls_and_lines, ForkLine, fork_line_of}
+
+same_pid : (a b : Pid) → Task (Fork a) ≡ Task (Fork b) → a ≡ b
+same_pid a b is = cc
+
+same_call : (a b : Call) → ◌≡◌ {A = Option Call} (Some a) (Some b) → a ≡ b
+same_call a b is = cc
+
+line_in : (ds : List Deed) (a : AskedLine) (m : ℕ) → Has (answered a m) ds → Has a (lines_of ds)
+line_in [] a m h = elim h [ ]
+line_in (answered x n ∷ ds) a m here = here
+line_in (answered x n ∷ ds) a m (there h) = there (line_in ds a m h)
+line_in (entered e n ∷ ds) a m (there h) = line_in ds a m h
+line_in (batched n b i ∷ ds) a m (there h) = line_in ds a m h
+
+asked_no_fork : (labels names : List (List ℕ)) (l : ScriptLine) (what : AskedWhat) → IsAskedOfLine labels names l what
+    → verb_in l ≡ Some (TaskVerbOf ForkVerb) → ⊥
+asked_no_fork labels names l (Ask v) is verb = absurd (let x : ◌≡◌ {A = Option Verb} (Some AskVerb) (Some (TaskVerbOf ForkVerb)) = sym is.0 ∙ verb in cc)
+asked_no_fork labels names l (Refused file fault) is verb = absurd (let x : ◌≡◌ {A = Option Verb} (Some Write) (Some (TaskVerbOf ForkVerb)) = sym is.0 ∙ verb in cc)
+asked_no_fork labels names l (Wait pid) is verb = absurd (let x : ◌≡◌ {A = Option Verb} (Some WaitVerb) (Some (TaskVerbOf ForkVerb)) = sym is.0 ∙ verb in cc)
+
+-- each fork of a history made a task
+abbrev pub ForksMade : List Entry → Type 0
+ForksMade history = (n : ℕ) (e : Entry) (pid : Pid) → Stands history n e → e.call ≡ Task (Fork pid) → (k : ℕ) × (e.reply ≡ Child k)
+
+module _ (lines : List ScriptLine) (good : AreGoodLines [] lines) (table : IsNameTable (task_names lines)) (left : List ScriptLine) (done : true ≡ true → left ≡ []) (t : TableId) (w : TaskValue) (g : Went true (scripted lines) (lines_by 0 lines) left (first_task t) w) (labels : List (List ℕ)) (closed : ClosedValue) (c : Closes labels w closed) (forked : ForksMade w.history) where
+  abbrev h : List Entry
+  h = w.history
+
+  abbrev ls : List AskedLine
+  ls = in_order (asked_of g.run)
+
+  abbrev names : List (List ℕ)
+  names = task_names lines
+
+  abbrev r : RunRecord
+  r = record_of true (scripted lines) left done t w g labels closed c
+
+  abbrev LifeOf : ℕ → Type 0
+  LifeOf k = Life true (scripted lines) w.journal w.history (in_order (asked_of g.run)) k
+
+  -- the task of a number has the pid of its lines
+  pid_of_life : (k : ℕ) (pid : Pid) (L : LifeOf k) → IsNumberOf h k pid → L.pid ≡ pid.0
+  pid_of_life k pid L is =
+      ⊎_elim (λ z. ⊎_elim (λ y. z.1 ∙ sym y.1)
+      (λ b. absurd (let x = (child_above 0 0 b.0 h b.1 k c.legal b.2 (ap child_of b.3.1)).0 in let x' = z.0 in omega arith)) is)
+      (λ a. ⊎_elim (λ y. absurd (let x = (child_above 0 0 a.1 h a.0 k c.legal a.2 (ap child_of a.3.1)).0 in let x' = y.0 in omega arith))
+      (λ b.
+      let place = one_child 0 0 a.1 b.0 h a.0 b.1 k c.legal a.2 b.2 (ap child_of a.3.1) (ap child_of b.3.1) in
+      let same = same_stand h a.1 b.0 a.0 b.1 place a.2 b.2 in
+      ap (λ (p : Pid). p.0) (same_pid (record { 0 = L.pid }) pid (sym a.3.0 ∙ (ap (λ (e : Entry). e.call) same ∙ b.3.0)))) is) L.born
+
+  -- a pid has one number
+  one_number : (k i : ℕ) (pid : Pid) → IsNumberOf h k pid → IsNumberOf h i pid → k ≡ i
+  one_number k i pid is it =
+      ⊎_elim (λ y. ⊎_elim (λ z. y.0 ∙ sym z.0) (λ b. absurd (first pid y.1 b.0 b.1 i b.2 b.3)) it)
+      (λ a. ⊎_elim (λ z. absurd (first pid z.1 a.0 a.1 k a.2 a.3))
+      (λ b.
+      let place = one_fork pid w.journal world_first h a.0 b.0 a.1 b.1 k i c.steps a.2 b.2 a.3 b.3 in
+      let same = same_stand h a.0 b.0 a.1 b.1 place a.2 b.2 in
+      same_child k i (sym a.3.1 ∙ (ap (λ (e : Entry). e.reply) same ∙ b.3.1))) it) is
+    where
+      same_child : (x y : ℕ) → Child x ≡ Child y → x ≡ y
+      same_child x y e = cc
+
+      first : (p : Pid) → p.0 ≡ 0 → (n : ℕ) (e : Entry) (k : ℕ) → Stands h n e → IsForkOf e k p → ⊥
+      first p zero_ n e k st fork =
+          no_fork p w.journal world_first h n e k c.steps (ap (λ (x : ℕ). (0 == x) || false) zero_) st fork
+
+  life_of : (k : ℕ) (pid : Pid) → IsNumberOf h k pid → LifeOf k
+  life_of k pid is =
+      life true (scripted lines) left done t w g labels closed c k (numbers_in true (scripted lines) left done t w g labels closed c k pid is)
+
+  -- a line of a task that has a number is a call of it
+  call_of : (k : ℕ) (pid : Pid) → IsNumberOf h k pid → (L : LifeOf k) → (l : ScriptLine) → Has l lines → l.task ≡ pid.0
+      → DeedOfLine (scripted lines) k L.calls l
+  call_of k pid is L l there_ own =
+      let same = pid_of_life k pid L is in
+      deed_of_line (scripted lines) k 1 L.calls (lines_by L.pid lines) l
+      (subst (FitsTo (scripted lines) k 1 L.calls (lines_by L.pid lines)) (L.done refl) L.fits) (lines_numbered L.pid lines good)
+      (has_those (λ (x : ScriptLine). x.task) L.pid lines l (own ∙ sym same) there_)
+
+  recorded : (k : ℕ) (pid : Pid) → IsNumberOf h k pid → (l : ScriptLine) → Has l lines → l.task ≡ pid.0 → IsRecorded r k l
+  recorded k pid is l there_ own =
+      let L = life_of k pid is in let d = call_of k pid is L l there_ own in by L d.deed d.there_ d.fits
+    where
+      by : (L : LifeOf k) (d : Deed) → Has d L.calls → Fits (scripted lines) k l.seq d l → IsRecorded r k l
+      by L (entered e n) u f = entry_of n e (at_of w.journal h k L.calls (entered e n) L.at u) f.0 f.1 f.2
+      by L (batched n b m) u f = batch_of n b (at_of w.journal h k L.calls (batched n b m) L.at u).0 f.0 f.1 f.2
+      by L (answered a m) u f =
+          let st = has_stands ls a (those_has (λ (x : AskedLine). x.task) k ls a (subst (Has a) (sym L.lines) (line_in L.calls a m u))).1 in
+          asked_line st.0 a st.1 f.0 f.1 f.2
+
+  -- the line that forks a task is a call of its own task, which made one
+  fork_made : (pid : ℕ) (F : ForkLine lines pid) (k : ℕ) → IsNumberOf h k (record { 0 = F.line.task })
+      → (i : ℕ) × IsNumberOf h i (record { 0 = pid })
+  fork_made pid F k is =
+      let L = life_of k (record { 0 = F.line.task }) is in
+      let d = call_of k (record { 0 = F.line.task }) is L F.line (in_lines F) refl in by L d.deed d.there_ d.fits
+    where
+      in_lines : (F : ForkLine lines pid) → Has F.line lines
+      in_lines F = subst (Has F.line) (sym F.is) (has_left F.behind (has_right F.front here))
+
+      line_forks : call_of_line (table_of lines) names F.line ≡ Some (Task (Fork (record { 0 = pid })))
+      line_forks =
+          let rest = names_behind (F.front ++ F.line ∷ []) F.behind in
+          let one : forked_name (change_of F.line) ≡ word_in 1 F.line ∷ [] = ap (λ v. forked_name (change_by v F.line)) F.verb in
+          let whole = ap task_names F.is ∙ (rest.1 ∙ (ap (λ ns. ns ++ rest.0) (names_more F.front F.line ∙ ap (λ ns. task_names F.front ++ ns) one)
+          ∙ append_assoc (task_names F.front) (word_in 1 F.line ∷ []) rest.0)) in
+          let found = next_pid names (task_names F.front) (word_in 1 F.line) rest.0 whole table in
+          ap (call_by (table_of lines) names F.line) F.verb
+          ∙ ap (λ p. of_one (of_one p (λ x. Fork x)) (λ c. Task c)) (found ∙ ap (λ n. Some (record { 0 = n })) F.many)
+
+      by : (L : LifeOf k) (d : Deed) → Has d L.calls → Fits (scripted lines) k F.line.seq d F.line → (i : ℕ) × IsNumberOf h i (record { 0 = pid })
+      by L (entered e n) u f =
+          let st = at_of w.journal h k L.calls (entered e n) L.at u in
+          let call = same_call e.call (Task (Fork (record { 0 = pid }))) (sym f.2 ∙ line_forks) in
+          let child = forked n e (record { 0 = pid }) st call in (child.0, inr (n, e, st, (call, child.1)))
+      by L (batched n b m) u f = absurd (let x : ◌≡◌ {A = Option Verb} (Some Write) (Some (TaskVerbOf ForkVerb)) = sym f.2.0 ∙ F.verb in cc)
+      by L (answered a m) u f = absurd (asked_no_fork (table_of lines) names F.line a.what f.2 F.verb)
+
+  -- each pid of the script has a number
+  numbered : (n pid : ℕ) → pid < n → pid < length names → (k : ℕ) × IsNumberOf h k (record { 0 = pid })
+  numbered zero pid lt within = absurd (omega arith)
+  numbered (suc n) zero lt within = (0, inl (refl, refl))
+  numbered (suc n) (suc p) lt within =
+      let F = fork_line_of (suc p) [] lines good (omega arith) within in
+      let below = F.good.there in
+      let many = F.many in
+      let parent = numbered n F.line.task (omega arith) (omega arith) in fork_made (suc p) F parent.0 parent.1
+
+  pub fits_script : FitsScript lines r
+  fits_script = record {
+    labels = refl;
+    names = refl;
+    tasks = λ pid within.
+        let k = numbered (pid.0 + 1) pid.0 (omega arith) within in
+        record {
+          number = k.0;
+          is = k.1;
+          one = λ i is. one_number i k.0 pid is k.1;
+          recorded = λ i l st own. recorded k.0 pid k.1 l (stands_has lines i l st) own;
+          many = many k.0 pid k.1;
+        };
+  } where
+    many : (k : ℕ) (pid : Pid) → IsNumberOf h k pid → call_count r k ≡ lines_of_task lines pid.0
+    many k pid is =
+        let L = life_of k pid is in
+        let same = pid_of_life k pid L is in
+        let a = count_is (scripted lines) r k (record {
+          calls = L.calls;
+          ls = lines_by L.pid lines;
+          rest = L.rest;
+          fits = L.fits;
+          batches = L.batches;
+          entries = L.entries;
+          lines = L.lines;
+        }) in
+        let b = calls_and_lines (scripted lines) k 1 L.calls (lines_by L.pid lines)
+        (subst (FitsTo (scripted lines) k 1 L.calls (lines_by L.pid lines)) (L.done refl) L.fits) in
+        a ∙ (b ∙ (sym (count_length (λ (x : ScriptLine). x.task) L.pid lines) ∙ ap (lines_of_task lines) same))
