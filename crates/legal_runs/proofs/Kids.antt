@@ -12,7 +12,7 @@ use Rattle.task_runs.specs.Runs.{Run, ends, does, forks, wait_deeds, own, number
 use Rattle.task_runs.proofs.Runs.{entries-append}
 use Rattle.legal_runs.proofs.Lists.{has_those}
 
-no_entry : (w : Option AskedLine) (e : Entry) → Has e (entries_in (wait_deeds w)) → ⊥
+pub no_entry : (w : Option AskedLine) (e : Entry) → Has e (entries_in (wait_deeds w)) → ⊥
 no_entry None e g = elim g [ ]
 no_entry (Some l) e g = elim g [ ]
 

@@ -143,7 +143,7 @@ module _ (full : Bool) (s : Scripted) (left : List ScriptLine) (done : full ≡ 
       covers world_means h (0 ∷ numbers g.run) c.legal here
       (λ e a n k' is. there (makes_own full s (lines_by 0 s.lines) left t w g e a e.task refl n k' is)) k le
 
-  entry_task : (n : ℕ) (e : Entry) → Stands h n e → Has e.task (0 ∷ numbers g.run)
+  pub entry_task : (n : ℕ) (e : Entry) → Stands h n e → Has e.task (0 ∷ numbers g.run)
   entry_task n e st = all e.task (let y = legal_below world_means 0 0 h e c.legal (stands_has h n e st) in omega arith)
 
   batch_task : (n : ℕ) (b : Batch) → Stands j n b → Has b.task (0 ∷ numbers g.run)

@@ -12,3 +12,5 @@ pub mod Legal
 pub mod Pids
 pub mod ScriptLines
 pub mod Fitting
+pub mod Forked
+pub mod LegalFor

@@ -8,10 +8,12 @@ use Rattle.record_spec.specs.declared.AskedLine.{AskedLine}
 use Rattle.record_spec.specs.declared.RunRecord.{RunRecord}
 use Rattle.replay_spec.specs.Replays.{with_asked}
 use Rattle.legal_spec.specs.Legal.{IsLegal}
+use Rattle.legal_spec.specs.Fits.{IsLegalFor}
 use Rattle.smack_kernel.specs.Tasks.{TaskValue, first_task}
 use Rattle.smack_kernel.specs.Answers.{IsWhole, ClosedValue, Closes}
 use Rattle.task_runs.specs.Scripts.{scripted, lines_by}
 use Rattle.task_runs.specs.Runs.{Ran}
+use Rattle.legal_runs.specs.Forked.{EachForkMakes}
 
 -- the first task of a kernel ran the first task of a script, to its end or, where it stopped, less far, and asked these
 abbrev pub FirstRan : Bool → List ScriptLine → TableId → TaskValue → List AskedLine → Type 0
@@ -39,3 +41,10 @@ RunsAreLegal =
     (bytes : List ℕ) (lines : List ScriptLine) → parse bytes ≡ Ok lines → (table : TableId) (w : TaskValue) (asked : List AskedLine)
     → FirstRan false lines table w asked → (closed : ClosedValue) → Closes (table_of lines) w closed
     → IsLegal (run_record lines closed asked)
+
+-- and it is legal for the script, where each fork made a task
+abbrev pub RunsAreLegalForScripts : Type 0
+RunsAreLegalForScripts =
+    (bytes : List ℕ) (lines : List ScriptLine) → parse bytes ≡ Ok lines → (table : TableId) (w : TaskValue) (asked : List AskedLine)
+    (ran : FirstRan false lines table w asked) → EachForkMakes ran.went.run → (closed : ClosedValue)
+    → Closes (table_of lines) w closed → IsLegalFor lines (run_record lines closed asked)

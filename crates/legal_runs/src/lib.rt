@@ -4,7 +4,7 @@
 //! `IsLegalFor` of legal_spec. A law is the contract of a function without a body.
 #![tactic(auto)]
 
-ghost use Rattle.legal_runs.specs.Laws.{RunsAreWhole, RunsAreLegal};
+ghost use Rattle.legal_runs.specs.Laws.{RunsAreWhole, RunsAreLegal, RunsAreLegalForScripts};
 
 /// The law: however far the tasks of a script came, the first task may close the kernel.
 pub fn runs_are_whole()
@@ -14,4 +14,9 @@ pub fn runs_are_whole()
 /// The law: what they came to, where none stopped, is a legal record.
 pub fn runs_are_legal()
     ensures { RunsAreLegal }
+{}
+
+/// The law: it is legal for the script, where each fork made a task.
+pub fn runs_are_legal_for_scripts()
+    ensures { RunsAreLegalForScripts }
 {}
