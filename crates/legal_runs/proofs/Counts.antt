@@ -1,5 +1,5 @@
 -- The calls of one task are counted.
-use Rattle.std.proofs.Common.{◌≡◌, ◌≢◌, ℕ, ◌+◌, ◌<◌, ◌≤◌, ◌⊎◌, ◌==◌, ◌&&◌, nat_lt, nat_le, List, [], ◌∷◌, ◌++◌, length, Bool, true, false, if◌then◌else◌, sym, refl, ap, ◌∙◌, subst, arith, ⊎_elim, inl, inr, eq-eqb, ne_eqb}
+use Rattle.std.proofs.Common.{◌≡◌, ◌≢◌, ℕ, ◌+◌, ◌<◌, ◌≤◌, ◌⊎◌, ◌==◌, ◌&&◌, nat_le, List, [], ◌∷◌, length, Bool, true, false, if◌then◌else◌, sym, refl, ap, ◌∙◌, arith, ⊎_elim, inl, inr, ne_eqb}
 use Rattle.std.specs.List.{count_by}
 use Rattle.std.specs.Prelude.{cond}
 use Rattle.std.proofs.lemmas.Bool.{cases_Bool, and_parts, leb-true, leb-false, eqb-true, eqb-false}
@@ -9,7 +9,7 @@ use Rattle.world_spec.specs.declared.Entry.{Entry}
 use Rattle.script_spec.specs.Lines.{ScriptLine}
 use Rattle.record_spec.specs.declared.AskedLine.{AskedLine}
 use Rattle.record_spec.specs.declared.RunRecord.{RunRecord}
-use Rattle.replay_spec.specs.Laws.{is_call, calls_at}
+use Rattle.replay_spec.specs.Laws.{calls_at}
 use Rattle.legal_spec.specs.Calls.{call_count}
 use Rattle.live_table.specs.Lists.{those_of}
 use Rattle.live_table.specs.Batches.{batches_by}

@@ -1,27 +1,23 @@
 -- The credentials that a task had at a call.
-use Rattle.std.proofs.Common.{◌≡◌, ℕ, zero, suc, ◌+◌, ◌<◌, ◌≤◌, ◌==◌, ◌&&◌, ◌||◌, nat_lt, List, [], ◌∷◌, ◌++◌, length, take, drop, Bool, true, false, fold, sym, refl, ap, ◌∙◌, subst, arith, append_assoc, append-nil, take-append-drop, ⊎_elim}
+use Rattle.std.proofs.Common.{◌≡◌, ℕ, zero, suc, ◌+◌, ◌<◌, ◌≤◌, ◌==◌, ◌&&◌, ◌||◌, nat_lt, List, [], ◌∷◌, ◌++◌, take, drop, Bool, true, false, sym, refl, ap, ◌∙◌, subst, arith, append_assoc, append-nil, take-append-drop, ⊎_elim}
 use Rattle.std.specs.List.{AllByRecursion}
 use Rattle.std.proofs.lemmas.Bool.{cases_Bool, eqb-true, le-ltb}
-use Rattle.std.proofs.lemmas.List.{length-take-le}
 use Rattle.rules_spec.specs.declared.Batch.{Batch}
 use Rattle.world_spec.specs.declared.Reply.{Reply}
 use Rattle.world_spec.specs.declared.Reply.TheVariants.{Ok as Done, Child, Signal, Names, Denied, Refused}
 use Rattle.world_spec.specs.declared.Entry.{Entry}
-use Rattle.world_spec.specs.Worlds.{World, world_first, creds_of}
-use Rattle.world_spec.specs.Replays.{AreSteps, after_entry, replay_of, makes, comes_before_call, cred_at}
+use Rattle.world_spec.specs.Worlds.{World, world_first}
+use Rattle.world_spec.specs.Replays.{AreSteps, after_entry, makes, comes_before_call, cred_at}
 use Rattle.world_replays.proofs.Points.{kept_at, at_is_now}
 use Rattle.legal_spec.specs.Calls.{Stands}
-use Rattle.live_table.specs.Lists.{Has, here, there}
-use Rattle.smack_kernel.specs.Histories.{child_of}
 use Rattle.task_runs.specs.Deeds.{creds_after}
-use Rattle.legal_runs.proofs.Lists.{same_some}
 
 steps_take : (j : List Batch) (w : World) (m : ℕ) (es : List Entry) → AreSteps j w es → AreSteps j w (take m es)
 steps_take j w zero es s = tt
 steps_take j w (suc m) [] s = tt
 steps_take j w (suc m) (e ∷ es) s = (s.0, s.1, steps_take j (after_entry j w e) m es s.2)
 
-all_stand : {A : Type 0} (P : A → Type 0) (xs : List A) → ((n : ℕ) (x : A) → Stands xs n x → P x) → AllByRecursion P xs
+pub all_stand : {A : Type 0} (P : A → Type 0) (xs : List A) → ((n : ℕ) (x : A) → Stands xs n x → P x) → AllByRecursion P xs
 all_stand P [] f = tt
 all_stand P (x ∷ xs) f = (f zero x refl, all_stand P xs (λ n y s. f (suc n) y s))
 

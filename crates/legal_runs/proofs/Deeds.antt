@@ -1,15 +1,13 @@
 -- The calls of one task in order.
-use Rattle.std.proofs.Common.{◌≡◌, ◌≢◌, ℕ, nat_lt, zero, suc, ◌+◌, ◌<◌, ◌≤◌, ◌⊎◌, ◌==◌, List, [], ◌∷◌, ◌++◌, length, Bool, true, false, sym, refl, ap, ◌∙◌, subst, append_assoc, arith, Option, Some, None, ⊎_elim, inl, inr, le_refl}
+use Rattle.std.proofs.Common.{◌≡◌, ℕ, ◌+◌, ◌<◌, ◌≤◌, List, [], ◌∷◌, ◌++◌, sym, refl, ap, ◌∙◌, append_assoc, arith, Option, Some, None, ⊎_elim, le_refl}
 use Rattle.rules_spec.specs.declared.Batch.{Batch}
 use Rattle.world_spec.specs.declared.Entry.{Entry}
 use Rattle.script_spec.specs.Lines.{ScriptLine}
 use Rattle.record_spec.specs.declared.AskedLine.{AskedLine}
-use Rattle.record_spec.specs.declared.AskedWhat.{AskedWhat}
-use Rattle.record_spec.specs.declared.AskedWhat.TheVariants.{Ask, Refused, Wait}
-use Rattle.live_table.specs.Lists.{Has, here, there, those_of}
-use Rattle.live_table.proofs.Lists.{has_left, has_right, has_either}
+use Rattle.live_table.specs.Lists.{Has, here, there}
+use Rattle.live_table.proofs.Lists.{has_right, has_either}
 use Rattle.task_runs.specs.Scripts.{Scripted}
-use Rattle.task_runs.specs.Deeds.{Deed, entered, batched, answered, asked_in, entries_in, batches_in, IsAt, AllAt, Fits, FitsTo, by_version, by_place, IsSeen}
+use Rattle.task_runs.specs.Deeds.{Deed, entered, batched, answered, asked_in, entries_in, batches_in, IsAt, AllAt, Fits, FitsTo, by_version, by_place}
 use Rattle.task_runs.specs.Runs.{Run, ends, does, forks, wait_deeds, own, Awaits, Over}
 use Rattle.task_runs.proofs.Runs.{Clock, version_clock, place_clock}
 use Rattle.legal_runs.proofs.Lists.{Rising, rising_low}

@@ -1,23 +1,21 @@
 -- All tasks of a run: what each made, asked and awaited.
-use Rattle.std.proofs.Common.{◌≡◌, ◌≢◌, ℕ, ◌+◌, ◌<◌, ◌≤◌, ◌⊎◌, List, [], ◌∷◌, ◌++◌, length, Bool, true, false, sym, refl, ap, ◌∙◌, subst, append_assoc, append-nil, arith, Option, Some, None, ⊎_elim, inl, inr, le_refl, eq-eqb, ne_eqb}
+use Rattle.std.proofs.Common.{◌≡◌, ◌≢◌, ℕ, ◌≤◌, ◌⊎◌, List, [], ◌∷◌, ◌++◌, Bool, sym, refl, ap, ◌∙◌, subst, append_assoc, append-nil, arith, Option, Some, None, ⊎_elim, inl, inr, le_refl, eq-eqb, ne_eqb}
 use Rattle.smack_base.specs.declared.ids.Pid.{Pid}
 use Rattle.rules_spec.specs.declared.Batch.{Batch}
 use Rattle.world_spec.specs.declared.Call.TheVariants.{Task}
 use Rattle.world_spec.specs.declared.TaskCall.TheVariants.{Fork}
-use Rattle.world_spec.specs.declared.Reply.TheVariants.{Child}
 use Rattle.world_spec.specs.declared.Entry.{Entry}
 use Rattle.record_spec.specs.declared.AskedLine.{AskedLine}
-use Rattle.record_spec.specs.declared.AskedWhat.{AskedWhat}
 use Rattle.record_spec.specs.declared.AskedWhat.TheVariants.{Wait}
 use Rattle.legal_spec.specs.Calls.{Stands, IsForkOf}
-use Rattle.live_table.specs.Lists.{Has, here, there, those_of}
+use Rattle.live_table.specs.Lists.{Has, here, there}
 use Rattle.live_table.proofs.Lists.{has_left, has_right, has_either, those-append}
 use Rattle.smack_kernel.specs.Histories.{child_of}
 use Rattle.task_runs.specs.Scripts.{Scripted, lines_by}
-use Rattle.task_runs.specs.Deeds.{Deed, entered, batched, answered, asked_in, entries_in, AllAt, Made, FitsTo, IsPlain, IsNoWait, by_version, by_place}
-use Rattle.task_runs.specs.Runs.{Run, ends, does, forks, waited, wait_deeds, own, numbers, asked_of, AllMade, Awaits, Over, IsWaitOf, IsChild, Kids, Distinct}
-use Rattle.task_runs.proofs.Runs.{version_clock, place_clock, entries-append}
-use Rattle.legal_runs.proofs.Deeds.{lines_of, AreOf, are-append, fits_are, RisesBy, Rises, over_rises, rises_up, places_up, place_low_of, Later, later_left, later_right}
+use Rattle.task_runs.specs.Deeds.{Deed, entered, batched, answered, asked_in, AllAt, IsPlain, IsNoWait, by_version, by_place}
+use Rattle.task_runs.specs.Runs.{Run, ends, does, forks, waited, wait_deeds, own, numbers, asked_of, AllMade, Awaits, Over, Kids, Distinct}
+use Rattle.task_runs.proofs.Runs.{version_clock, place_clock}
+use Rattle.legal_runs.proofs.Deeds.{lines_of, AreOf, are-append, fits_are, over_rises, rises_up, places_up, place_low_of, Later, later_left, later_right}
 use Rattle.legal_runs.proofs.Lives.{asked_by, Life}
 use Rattle.legal_runs.proofs.Kids.{kid_makes, below_child}
 

@@ -1,8 +1,7 @@
 -- The record of a script's tasks has each of its lines as one call.
-use Rattle.std.proofs.Common.{◌≡◌, ℕ, zero, suc, ◌+◌, ◌<◌, ◌≤◌, ◌⊎◌, ◌==◌, ◌||◌, List, [], ◌∷◌, ◌++◌, length, Bool, true, false, sym, refl, ap, ◌∙◌, subst, arith, append_assoc, ⊎_elim, inl, inr, Option, Some, Ok}
+use Rattle.std.proofs.Common.{◌≡◌, ℕ, zero, suc, ◌+◌, ◌<◌, ◌==◌, ◌||◌, List, [], ◌∷◌, ◌++◌, length, true, false, sym, refl, ap, ◌∙◌, subst, arith, append_assoc, ⊎_elim, inl, inr, Option, Some}
 use Rattle.atomic_table.specs.Seated.{TableId}
 use Rattle.smack_base.specs.declared.ids.Pid.{Pid}
-use Rattle.rules_spec.specs.declared.Batch.{Batch}
 use Rattle.world_spec.specs.declared.Call.{Call}
 use Rattle.world_spec.specs.declared.Call.TheVariants.{Task}
 use Rattle.world_spec.specs.declared.TaskCall.TheVariants.{Fork}
@@ -18,30 +17,30 @@ use Rattle.record_spec.specs.declared.AskedLine.{AskedLine}
 use Rattle.record_spec.specs.declared.AskedWhat.{AskedWhat}
 use Rattle.record_spec.specs.declared.AskedWhat.TheVariants.{Ask, Refused, Wait}
 use Rattle.record_spec.specs.declared.RunRecord.{RunRecord}
-use Rattle.replay_spec.specs.Calls.{pid_in, of_one, call_by, call_of_line}
+use Rattle.replay_spec.specs.Calls.{of_one, call_by, call_of_line}
 use Rattle.replay_spec.specs.Laws.{lines_of_task}
 use Rattle.replay_spec.specs.Plain.{IsNameTable}
 use Rattle.replayed_records.proofs.InStep.{next_pid}
-use Rattle.plain_records.proofs.GoodLines.{IsGoodLine, AreGoodLines}
+use Rattle.plain_records.proofs.GoodLines.{AreGoodLines}
 use Rattle.plain_records.proofs.Tasks.{names_more, names_behind}
 use Rattle.legal_spec.specs.Calls.{Stands, IsForkOf, IsNumberOf, call_count}
-use Rattle.legal_spec.specs.Fits.{IsRecorded, batch as batch_of, entry as entry_of, asked as asked_line, HasItsLines, FitsScript}
+use Rattle.legal_spec.specs.Fits.{IsRecorded, batch as batch_of, entry as entry_of, asked as asked_line, FitsScript}
 use Rattle.legal_spec.specs.Lines.{IsAskedOfLine}
 use Rattle.live_table.specs.Lists.{Has, here, there}
 use Rattle.live_table.proofs.Lists.{has_left, has_right}
-use Rattle.smack_kernel.specs.Histories.{world_means, child_of}
+use Rattle.smack_kernel.specs.Histories.{child_of}
 use Rattle.smack_kernel.specs.Tasks.{TaskValue, first_task}
 use Rattle.smack_kernel.specs.Answers.{ClosedValue, Closes}
-use Rattle.task_runs.specs.Scripts.{Scripted, scripted, lines_by}
-use Rattle.task_runs.specs.Deeds.{Deed, entered, batched, answered, asked_in, Fits, FitsTo}
-use Rattle.task_runs.specs.Runs.{numbers, asked_of, Went}
+use Rattle.task_runs.specs.Scripts.{scripted, lines_by}
+use Rattle.task_runs.specs.Deeds.{Deed, entered, batched, answered, Fits, FitsTo}
+use Rattle.task_runs.specs.Runs.{asked_of, Went}
 use Rattle.legal_runs.proofs.Lists.{stands_has, has_stands, has_those, those_has}
 use Rattle.legal_runs.proofs.Deeds.{lines_of, at_of}
-use Rattle.legal_runs.proofs.Lives.{asked_by, Life}
+use Rattle.legal_runs.proofs.Lives.{Life}
 use Rattle.legal_runs.proofs.Histories.{child_above, one_child, same_stand}
 use Rattle.legal_runs.proofs.Sorting.{in_order}
-use Rattle.legal_runs.proofs.Counts.{Counted, count_is, count_length}
-use Rattle.legal_runs.proofs.Legal.{record_of, life, numbers_in, named}
+use Rattle.legal_runs.proofs.Counts.{count_is, count_length}
+use Rattle.legal_runs.proofs.Legal.{record_of, life, numbers_in}
 use Rattle.legal_runs.proofs.Pids.{no_fork, one_fork}
 use Rattle.legal_runs.proofs.ScriptLines.{lines_numbered, DeedOfLine, deed_of_line, calls_and_lines, ForkLine, fork_line_of}
 

@@ -1,14 +1,13 @@
 -- What a legal history says of its entries.
-use Rattle.std.proofs.Common.{◌≡◌, ℕ, zero, suc, ◌+◌, ◌<◌, ◌≤◌, List, [], ◌∷◌, length, sym, refl, ap, ◌∙◌, subst, arith, Option, Some, None}
+use Rattle.std.proofs.Common.{◌≡◌, ℕ, zero, suc, ◌+◌, ◌<◌, ◌≤◌, List, [], ◌∷◌, sym, refl, ap, ◌∙◌, subst, arith, Some}
 use Rattle.world_spec.specs.declared.Reply.{Reply}
 use Rattle.world_spec.specs.declared.Reply.TheVariants.{Ok as Done, Child, Signal, Names, Denied, Refused}
 use Rattle.world_spec.specs.declared.Entry.{Entry}
 use Rattle.std.specs.List.{slice_get}
 use Rattle.legal_spec.specs.Calls.{Stands}
-use Rattle.live_table.specs.Lists.{Has}
 use Rattle.live_table.specs.Machines.{makes, made, Next, LegalFrom, last_from}
 use Rattle.smack_kernel.specs.Histories.{world_means, child_of}
-use Rattle.legal_runs.proofs.Lists.{same_some, stands_has}
+use Rattle.legal_runs.proofs.Lists.{same_some}
 
 -- a reply that names a child
 pub child_named : (r : Reply) (k : ℕ) → child_of r ≡ Some k → r ≡ Child k

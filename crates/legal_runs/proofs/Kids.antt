@@ -1,9 +1,9 @@
 -- What the entries of a run's tasks make.
-use Rattle.std.proofs.Common.{◌≡◌, ℕ, ◌⊎◌, List, [], ◌∷◌, ◌++◌, Bool, sym, refl, ap, ◌∙◌, subst, Option, Some, None, ⊎_elim}
+use Rattle.std.proofs.Common.{◌≡◌, ℕ, List, ◌∷◌, ◌++◌, Bool, sym, ap, ◌∙◌, subst, Option, Some, None, ⊎_elim}
 use Rattle.rules_spec.specs.declared.Batch.{Batch}
 use Rattle.world_spec.specs.declared.Entry.{Entry}
 use Rattle.record_spec.specs.declared.AskedLine.{AskedLine}
-use Rattle.live_table.specs.Lists.{Has, here, there, those_of}
+use Rattle.live_table.specs.Lists.{Has, here, there}
 use Rattle.live_table.proofs.Lists.{has_left, has_right, has_either}
 use Rattle.smack_kernel.specs.Histories.{child_of}
 use Rattle.task_runs.specs.Scripts.{Scripted}

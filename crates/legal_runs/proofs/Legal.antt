@@ -1,19 +1,16 @@
 -- From what the tasks did, and the closed kernel, to a legal record.
-use Rattle.std.proofs.Common.{◌≡◌, ℕ, ◌+◌, ◌<◌, ◌≤◌, ◌⊎◌, List, [], ◌∷◌, ◌++◌, length, take, Bool, true, false, if◌then◌else◌, sym, refl, ap, ◌∙◌, subst, arith, ⊎_elim, inl, inr, Option, Some, Ok}
+use Rattle.std.proofs.Common.{◌≡◌, ℕ, ◌+◌, ◌<◌, ◌≤◌, ◌⊎◌, List, [], ◌∷◌, length, Bool, true, sym, refl, ap, ◌∙◌, subst, arith, ⊎_elim, inl, inr, Some}
 use mathlib.Core.Logic.{dite}
 use native.Mathlib.Decide.{ℕ_discrete}
 use Rattle.std.specs.Prelude.{is_some}
 use Rattle.atomic_table.specs.Seated.{TableId}
 use Rattle.smack_base.specs.declared.ids.Pid.{Pid}
 use Rattle.smack_base.specs.declared.cap.Cap.TheVariants.{MacAdmin}
-use Rattle.smack_base.specs.declared.rule_op.RuleOp.{RuleOp}
 use Rattle.rules_spec.specs.declared.Batch.{Batch}
 use Rattle.rules_spec.specs.Creds.{is_effective}
 use Rattle.file_spec.specs.declared.Refusal.{Refusal}
 use Rattle.file_spec.specs.declared.Refusal.TheVariants.{NoSuchFile, TooLong, BadLine, UnknownLabel, NotPrivileged, JournalFull}
-use Rattle.file_spec.specs.declared.Compiled.TheVariants.{Rules}
 use Rattle.file_spec.specs.Writes.{rule_file}
-use Rattle.file_spec.specs.Files.{compiled}
 use Rattle.world_spec.specs.declared.Reply.TheVariants.{Child}
 use Rattle.world_spec.specs.declared.Entry.{Entry}
 use Rattle.world_spec.specs.Replays.{version_of, cred_at}
@@ -23,12 +20,12 @@ use Rattle.record_spec.specs.declared.AskedLine.{AskedLine}
 use Rattle.record_spec.specs.declared.AskedWhat.{AskedWhat}
 use Rattle.record_spec.specs.declared.AskedWhat.TheVariants.{Ask, Refused, Wait}
 use Rattle.record_spec.specs.declared.RunRecord.{RunRecord}
-use Rattle.legal_spec.specs.Calls.{Stands, IsForkOf, IsNumberOf, IsCall, batch, entry, asked, Descends, itself, child}
+use Rattle.legal_spec.specs.Calls.{Stands, IsNumberOf, IsCall, batch, entry, asked, Descends, itself, child}
 use Rattle.legal_spec.specs.Legal.{IsEachCallOnce, AreJudged, ArePrivileged, IsRefused, IsSo, AreAnswered, HasWaited, IsFresh, IsLegal}
 use Rattle.legal_spec.specs.Lines.{IsAskedOfLine}
 use Rattle.legal_replays.proofs.TextRefusals.{rules_of_file}
 use Rattle.live_table.specs.Lists.{Has, here, there}
-use Rattle.live_table.specs.Batches.{batches_by, task_of}
+use Rattle.live_table.specs.Batches.{task_of}
 use Rattle.live_table.specs.Machines.{made}
 use Rattle.live_table.proofs.Closes.{covers}
 use Rattle.live_table.proofs.Lists.{those_none}
@@ -37,14 +34,14 @@ use Rattle.smack_kernel.specs.Histories.{world_means, child_of}
 use Rattle.smack_kernel.specs.Tasks.{TaskValue, first_task}
 use Rattle.smack_kernel.specs.Answers.{ClosedValue, Closes}
 use Rattle.task_runs.specs.Scripts.{Scripted, scripted, lines_by}
-use Rattle.task_runs.specs.Deeds.{entries_of, Deed, entered, batched, answered, creds_after, IsTrueRefusal, IsTrueAnswer, Fits, FitsTo, IsSeen, by_version, by_place}
+use Rattle.task_runs.specs.Deeds.{Deed, entered, batched, answered, creds_after, IsTrueRefusal, IsTrueAnswer, Fits, FitsTo, IsSeen, by_version, by_place}
 use Rattle.task_runs.specs.Runs.{own, numbers, asked_of, Went}
 use Rattle.task_runs.proofs.Runs.{version_clock, place_clock}
 use Rattle.legal_runs.specs.Laws.{RunsAreLegal}
 use Rattle.legal_runs.proofs.Lists.{stands_has, has_stands}
-use Rattle.legal_runs.proofs.Deeds.{seq_of, need_of, reach_of, fits_are, over_rises, ordered, rises_within, at_of, place_high_of, place_low_of, Saw, saw_low, place_order, Later}
-use Rattle.legal_runs.proofs.Lives.{asked_by, Life, DeedOf, seqs_rise, entry_deed, batch_deed, line_deed, later_place}
-use Rattle.legal_runs.proofs.Family.{Part, own_of, lift, Found, find, Waiter, waits_in, line_task}
+use Rattle.legal_runs.proofs.Deeds.{seq_of, fits_are, over_rises, ordered, rises_within, at_of, place_high_of, place_low_of, Saw, saw_low, place_order, Later}
+use Rattle.legal_runs.proofs.Lives.{Life, DeedOf, seqs_rise, entry_deed, batch_deed, line_deed, later_place}
+use Rattle.legal_runs.proofs.Family.{Part, own_of, lift, find, Waiter, waits_in, line_task}
 use Rattle.legal_runs.proofs.Whole.{makes_own, all_numbers}
 use Rattle.legal_runs.proofs.Histories.{child_above, one_child, same_stand, versions_rise, versions_within}
 use Rattle.legal_runs.proofs.Sorting.{in_order, order_keeps, order_has}
@@ -65,13 +62,13 @@ has_or_not k (x ∷ ks) = dite (ℕ_discrete k x) (λ e. inl (subst (λ y. Has k
         by y (there g) e ne no_ = no_ (subst (λ z. Has z ks) e g)
 
 -- the line of a call
-record LineOf (s : Scripted) (t : ℕ) (d : Deed) (ls : List ScriptLine) : Type 0 where
-  q : ℕ
-  l : ScriptLine
-  there_ : Has l ls
-  fits : Fits s t q d l
+pub record LineOf (s : Scripted) (t : ℕ) (d : Deed) (ls : List ScriptLine) : Type 0 where
+  pub q : ℕ
+  pub l : ScriptLine
+  pub there_ : Has l ls
+  pub fits : Fits s t q d l
 
-line_of_deed : (s : Scripted) (t q : ℕ) (ds : List Deed) (ls rest : List ScriptLine) (d : Deed) → FitsTo s t q ds ls rest → Has d ds → LineOf s t d ls
+pub line_of_deed : (s : Scripted) (t q : ℕ) (ds : List Deed) (ls rest : List ScriptLine) (d : Deed) → FitsTo s t q ds ls rest → Has d ds → LineOf s t d ls
 line_of_deed s t q [] ls rest d f h = elim h [ ]
 line_of_deed s t q (x ∷ ds) [] rest d f h = absurd f
 line_of_deed s t q (x ∷ ds) (l ∷ ls) rest d f here = record { q = q; l = l; there_ = here; fits = f.0 }
@@ -146,11 +143,11 @@ module _ (full : Bool) (s : Scripted) (left : List ScriptLine) (done : full ≡ 
   pub entry_task : (n : ℕ) (e : Entry) → Stands h n e → Has e.task (0 ∷ numbers g.run)
   entry_task n e st = all e.task (let y = legal_below world_means 0 0 h e c.legal (stands_has h n e st) in omega arith)
 
-  batch_task : (n : ℕ) (b : Batch) → Stands j n b → Has b.task (0 ∷ numbers g.run)
+  pub batch_task : (n : ℕ) (b : Batch) → Stands j n b → Has b.task (0 ∷ numbers g.run)
   batch_task n b st =
       subst (Has b.task) (all_numbers full s (lines_by 0 s.lines) left t w g) (c.tasks b (stands_has j n b st))
 
-  line_number : (n : ℕ) (a : AskedLine) → Stands ls n a → Has a.task (0 ∷ numbers g.run)
+  pub line_number : (n : ℕ) (a : AskedLine) → Stands ls n a → Has a.task (0 ∷ numbers g.run)
   line_number n a st =
       ⊎_elim (λ z. subst (λ y. Has y (0 ∷ numbers g.run)) (sym z) here) (λ u. there u)
       (line_task full s j h 0 g.run 0 w.version root a (order_has told a (stands_has ls n a st)))

@@ -1,18 +1,15 @@
 -- What the tasks of a script did at a kernel is a record that is legal for the script.
-use Rattle.std.proofs.Common.{◌≡◌, ℕ, List, [], true, sym, refl, ap, subst, Ok}
-use Rattle.smack_base.specs.declared.ids.Pid.{Pid}
+use Rattle.std.proofs.Common.{◌≡◌, List, [], true, sym, refl, subst}
 use Rattle.rules_spec.specs.declared.Batch.{Batch}
-use Rattle.world_spec.specs.declared.Call.TheVariants.{Task}
-use Rattle.world_spec.specs.declared.TaskCall.TheVariants.{Fork}
 use Rattle.world_spec.specs.declared.Entry.{Entry}
-use Rattle.script_spec.specs.Lines.{ScriptLine, table_of}
+use Rattle.script_spec.specs.Lines.{table_of}
 use Rattle.script_spec.specs.Tasks.{task_names}
 use Rattle.record_spec.specs.declared.AskedLine.{AskedLine}
 use Rattle.plain_records.proofs.GoodLines.{good_lines}
 use Rattle.plain_records.proofs.Tasks.{names_are_a_table}
 use Rattle.legal_spec.specs.Fits.{IsLegalFor}
 use Rattle.live_table.specs.Lists.{Has}
-use Rattle.task_runs.specs.Scripts.{scripted, lines_by}
+use Rattle.task_runs.specs.Scripts.{scripted}
 use Rattle.legal_runs.specs.Laws.{RunsAreLegalForScripts}
 use Rattle.legal_runs.proofs.Lists.{stands_has, has_those}
 use Rattle.legal_runs.proofs.Sorting.{in_order}

@@ -14,3 +14,4 @@ pub mod ScriptLines
 pub mod Fitting
 pub mod Forked
 pub mod LegalFor
+pub mod Plain

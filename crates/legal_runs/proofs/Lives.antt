@@ -1,15 +1,11 @@
 -- What is known of one task of a run, of its number in a journal, a history and asked lines.
-use Rattle.std.proofs.Common.{◌≡◌, ℕ, ◌+◌, ◌<◌, ◌≤◌, ◌⊎◌, List, [], ◌∷◌, ◌++◌, length, take, drop, Bool, true, false, sym, refl, ap, ◌∙◌, subst, arith, ⊎_elim, inl, inr}
-use Rattle.smack_base.specs.declared.ids.Pid.{Pid}
+use Rattle.std.proofs.Common.{◌≡◌, ℕ, ◌+◌, ◌<◌, ◌≤◌, ◌⊎◌, List, [], Bool, true, sym, subst}
 use Rattle.rules_spec.specs.declared.Batch.{Batch}
-use Rattle.world_spec.specs.declared.Call.TheVariants.{Task}
-use Rattle.world_spec.specs.declared.TaskCall.TheVariants.{Fork}
-use Rattle.world_spec.specs.declared.Reply.TheVariants.{Child}
 use Rattle.world_spec.specs.declared.Entry.{Entry}
 use Rattle.script_spec.specs.Lines.{ScriptLine}
 use Rattle.record_spec.specs.declared.AskedLine.{AskedLine}
 use Rattle.legal_spec.specs.Calls.{Stands, IsForkOf}
-use Rattle.live_table.specs.Lists.{Has, here, there, those_of}
+use Rattle.live_table.specs.Lists.{Has, those_of}
 use Rattle.live_table.specs.Batches.{batches_by, task_of}
 use Rattle.task_runs.specs.Scripts.{Scripted, lines_by}
 use Rattle.task_runs.specs.Deeds.{entries_of, Deed, entered, batched, answered, entries_in, batches_in, AllAt, FitsTo, by_place}

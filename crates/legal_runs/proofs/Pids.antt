@@ -1,5 +1,5 @@
 -- No two tasks of a world have one pid.
-use Rattle.std.proofs.Common.{◌≡◌, ℕ, zero, suc, ◌==◌, eq-eqb, ◌||◌, Bool, true, false, not, nat_le, List, [], ◌∷◌, ◌++◌, length, sym, refl, ap, ◌∙◌, subst, Option, Some, None}
+use Rattle.std.proofs.Common.{◌≡◌, ℕ, zero, suc, ◌==◌, eq-eqb, ◌||◌, Bool, true, false, not, nat_le, List, [], ◌∷◌, length, sym, refl, ap, ◌∙◌, Option, Some, None}
 use Rattle.std.specs.List.{list_any}
 use Rattle.std.proofs.lemmas.List.Folds.{list_any-append}
 use Rattle.smack_base.specs.declared.ids.Pid.{Pid}

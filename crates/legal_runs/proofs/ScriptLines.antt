@@ -1,15 +1,13 @@
 -- The lines of a script: the numbers of a task's lines, and the line that forks a task.
 use Rattle.std.proofs.Common.{◌≡◌, ℕ, ◌+◌, ◌<◌, ◌≤◌, ◌⊎◌, ◌==◌, nat_le, if◌then◌else◌, List, [], ◌∷◌, ◌++◌, length, Bool, true, false, sym, refl, ap, ◌∙◌, subst, arith, append_assoc, append-nil, length-append, ⊎_elim, inl, inr, Option, Some, None}
 use Rattle.std.specs.Prelude.{cond}
-use Rattle.std.specs.List.{count_by}
-use Rattle.std.proofs.lemmas.Bool.{cases_Bool, leb-true, leb-false, eqb-true, eqb-false}
+use Rattle.std.proofs.lemmas.Bool.{cases_Bool, leb-true, leb-false, eqb-true}
 use Rattle.std.proofs.lemmas.List.Sums.{sum_by-append}
 use Rattle.script_spec.specs.declared.Verb.{Verb}
 use Rattle.script_spec.specs.declared.Verb.TheVariants.{Write, Ask, Wait, Task as TaskVerbOf, Tree as TreeVerbOf}
 use Rattle.script_spec.specs.declared.TaskVerb.TheVariants.{Fork as ForkVerb, Exit, Relabel, Drop, Kill, Take, Trace}
-use Rattle.script_spec.specs.Lines.{ScriptLine, word_in, verb_in}
+use Rattle.script_spec.specs.Lines.{ScriptLine, verb_in}
 use Rattle.script_spec.specs.Tasks.{TaskChange, Forks, Exits, Awaits, Keeps, change_by, change_of, forked_name, is_fork, calls_by, task_names}
-use Rattle.legal_spec.specs.Calls.{Stands}
 use Rattle.live_table.specs.Lists.{Has, here, there}
 use Rattle.plain_records.proofs.GoodLines.{IsGoodLine, AreGoodLines}
 use Rattle.plain_records.proofs.Tasks.{names_more}

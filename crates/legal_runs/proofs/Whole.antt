@@ -1,5 +1,5 @@
 -- However far the tasks of a script came, the first may close the kernel.
-use Rattle.std.proofs.Common.{◌≡◌, ℕ, ◌⊎◌, List, [], ◌∷◌, sym, refl, subst, Bool, not, Option, Some, Ok, ⊎_elim, inl, inr}
+use Rattle.std.proofs.Common.{◌≡◌, ℕ, List, ◌∷◌, sym, refl, subst, Bool, not, Some}
 use Rattle.atomic_table.specs.Seated.{TableId}
 use Rattle.world_spec.specs.declared.Entry.{Entry}
 use Rattle.script_spec.specs.Lines.{ScriptLine}

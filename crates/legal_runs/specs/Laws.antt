@@ -7,6 +7,7 @@ use Rattle.script_spec.specs.Tasks.{task_names}
 use Rattle.record_spec.specs.declared.AskedLine.{AskedLine}
 use Rattle.record_spec.specs.declared.RunRecord.{RunRecord}
 use Rattle.replay_spec.specs.Replays.{with_asked}
+use Rattle.replay_spec.specs.Plain.{IsPlain}
 use Rattle.legal_spec.specs.Legal.{IsLegal}
 use Rattle.legal_spec.specs.Fits.{IsLegalFor}
 use Rattle.smack_kernel.specs.Tasks.{TaskValue, first_task}
@@ -48,3 +49,10 @@ RunsAreLegalForScripts =
     (bytes : List ℕ) (lines : List ScriptLine) → parse bytes ≡ Ok lines → (table : TableId) (w : TaskValue) (asked : List AskedLine)
     (ran : FirstRan false lines table w asked) → EachForkMakes ran.went.run → (closed : ClosedValue)
     → Closes (table_of lines) w closed → IsLegalFor lines (run_record lines closed asked)
+
+-- and it is plain
+abbrev pub RunsArePlain : Type 0
+RunsArePlain =
+    (bytes : List ℕ) (lines : List ScriptLine) → parse bytes ≡ Ok lines → (table : TableId) (w : TaskValue) (asked : List AskedLine)
+    → FirstRan false lines table w asked → (closed : ClosedValue) → Closes (table_of lines) w closed
+    → IsPlain (run_record lines closed asked)

@@ -4,7 +4,7 @@
 //! `IsLegalFor` of legal_spec. A law is the contract of a function without a body.
 #![tactic(auto)]
 
-ghost use Rattle.legal_runs.specs.Laws.{RunsAreWhole, RunsAreLegal, RunsAreLegalForScripts};
+ghost use Rattle.legal_runs.specs.Laws.{RunsAreWhole, RunsAreLegal, RunsAreLegalForScripts, RunsArePlain};
 
 /// The law: however far the tasks of a script came, the first task may close the kernel.
 pub fn runs_are_whole()
@@ -19,4 +19,9 @@ pub fn runs_are_legal()
 /// The law: it is legal for the script, where each fork made a task.
 pub fn runs_are_legal_for_scripts()
     ensures { RunsAreLegalForScripts }
+{}
+
+/// The law: it is plain, so that its text tells it.
+pub fn runs_are_plain()
+    ensures { RunsArePlain }
 {}
