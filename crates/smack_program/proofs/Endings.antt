@@ -1,9 +1,9 @@
-use Rattle.std.proofs.Common.{◌≡◌, ◌≢◌, ◌≤◌, ◌<◌, ℕ, List, length, refl, sym, ap, ◌∙◌, arith, inl, inr, Some, None, Ok, Err}
-use Rattle.std.specs.Prelude.{Option, Result, IsSomeAnd}
-use Rattle.outside.specs.Faults.{Rose, AreTold}
+use Rattle.std.proofs.Common.{◌≡◌, ◌≢◌, ◌≤◌, ◌<◌, ℕ, List, length, refl, sym, ap, ◌∙◌, arith, inl, inr, true, Some, None, Ok, Err}
+use Rattle.std.specs.Prelude.{◌⊎◌, Option, Result, IsTrue, IfSome, false}
+use Rattle.std.proofs.lemmas.Bool.{lt-ltb}
+use Rattle.outside.specs.Faults.{AreTold}
 use Rattle.outside.specs.Seen.{Seen}
 use Rattle.outside.specs.Source.{Takes, AtEnd}
-use Rattle.outside.specs.Sink.{AppendsFront}
 use Rattle.outside.specs.Reading.{taken_count}
 use Rattle.outside.proofs.Taking.{took_all}
 use Rattle.script_spec.specs.declared.What.{What}
@@ -12,82 +12,130 @@ use Rattle.script_spec.specs.declared.ScriptFault.{ScriptFault}
 use Rattle.script_spec.specs.declared.ScriptFault.TheVariants.{Malformed as BadLine, TooLarge as Exceeds, Memory}
 use Rattle.script_spec.specs.Grammar.{parse, most_bytes}
 use Rattle.script_text.specs.Scripts.{Fails}
-use Rattle.record_spec.specs.declared.RunRecord.{RunRecord}
-use Rattle.record_spec.specs.Show.{show}
 use Rattle.smack_program.specs.declared.status.Status.{Status}
 use Rattle.smack_program.specs.declared.status.Status.TheVariants.{Done, Usage, ReadFault, WriteFault, OutOfMemory, TooLarge}
-use Rattle.smack_program.specs.Statuses.{status_of, answer_status}
-use Rattle.smack_program.specs.Ends.{IsCutShort}
-use Rattle.smack_program.specs.Replay.{IsReplay, replay_answers, ReplayEnds}
+use Rattle.smack_program.specs.Statuses.{status_of, read_status, due_status, is_refusal}
+use Rattle.smack_program.specs.Parts.{IsRead, IsUnread, IsWritten, IsUnwritten}
+use Rattle.smack_program.specs.Scripts.{IsNoScript, ScriptEnds}
 use Rattle.smack_program.proofs.FewBytes.{few_bytes}
 
 -- a count that stayed tells no fault
-quiet : (s s' : ℕ) (P : Type 0) → s' ≡ s → (P → ⊥) → AreTold s s' P
+pub quiet : (s s' : ℕ) (P : Type 0) → s' ≡ s → (P → ⊥) → AreTold s s' P
 quiet s s' P same never = record {
   never_falls = omega (arith, same);
   cause = λ p. absurd (never p);
   told = λ more. absurd (omega (arith, same, more));
 }
 
--- a count that rose, and its fault
-loud : (s s' : ℕ) (P : Type 0) → s ≤ s' → Rose s s' → P → AreTold s s' P
-loud s s' P later rose p = record { never_falls = later; cause = λ q. rose; told = λ more. p }
-
--- the source was read to its end, and gave these bytes
-pub record IsRead (source source' : Seen) (bytes : List ℕ) : Type 0 where
-  pub took : Takes source.bytes source'.bytes bytes
-  pub ends : AtEnd source'.bytes
-  pub few : length bytes ≤ most_bytes
-  pub no_more : IsSomeAnd (taken_count source.bytes source'.bytes) (λ n. most_bytes < n) → ⊥
-  pub same : source'.faults ≡ source.faults
-
 same_told : (left left' : Option (List ℕ)) (bytes told : List ℕ) → Takes left left' bytes → AtEnd left' → left ≡ Some told → told ≡ bytes
 same_told None left' bytes told took ends is = cc
 same_told (Some x) left' bytes told took ends is = let all = took_all x bytes left' took ends in let same : x ≡ told = cc in sym same ∙ all.1
 
--- bytes that are no script get no other answer
-refuses : (bytes : List ℕ) (f : ScriptFault) (answer : Result (List ℕ) Status) → parse bytes ≡ Err f → replay_answers bytes answer
-    → answer_status answer ≡ status_of f
-refuses bytes f (Ok text) refused (lines, parsed, is) = let both : Ok lines ≡ Err f = sym parsed ∙ refused in cc
-refuses bytes f (Err status) refused (fault, other, is) =
-    let both : Err fault ≡ Err f = sym other ∙ refused in
-    let same : fault ≡ f = cc in
-    is ∙ ap status_of same
+-- the status that is due to the bytes told is due to those read
+due_to : (source source' : Seen) (bytes told : List ℕ) (status : Status) → IsRead source source' bytes → source.bytes ≡ Some told
+    → due_status bytes ≡ status → status ≡ due_status told
+due_to source source' bytes told status read is due =
+    sym (ap due_status (same_told source.bytes source'.bytes bytes told read.took read.ends is) ∙ due)
+
+-- too many bytes are no script
+due_to_many : (bytes : List ℕ) → most_bytes < length bytes → TooLarge Bytes ≡ due_status bytes
+due_to_many bytes many = rw (lt-ltb most_bytes (length bytes) many) refl
+
+many_told : (left left' : Option (List ℕ)) (told : List ℕ) → left ≡ Some told → (bytes : List ℕ) × Takes left left' bytes
+    → IfSome (taken_count left left') (λ n. most_bytes < n) → most_bytes < length told
+many_told None left' told is front more = cc
+many_told (Some x) None told is (bytes, (rest, after, cut)) more = cc
+many_told (Some x) (Some y) told is front more = let same : x ≡ told = cc in rw (← same) (omega (arith, more))
+
+-- a status that refuses nothing
+not_refused : (status other : Status) → status ≡ other → is_refusal other ≡ false → IsTrue (is_refusal status) → ⊥
+not_refused status other is none refused =
+    let known : is_refusal status ≡ false = ap is_refusal is ∙ none in
+    let also : is_refusal status ≡ true = refused in
+    cc
+
+unread_for : (answers : List ℕ → Result (List ℕ) Status → Type 0) (source source' sink : Seen) (status : Status)
+    → IsUnread source source' status → (status ≡ ReadFault) ⊎ ((status ≡ TooLarge Bytes) ⊎ (status ≡ OutOfMemory))
+    → ScriptEnds answers source source' sink sink status
+unread_for answers source source' sink status unread (inl is) = record {
+  front = unread.front;
+  done = λ d. cc;
+  refused = λ refused. absurd (not_refused status ReadFault is refl refused);
+  large = unread.large;
+  exceeded = unread.exceeded;
+  read = unread.read;
+  write = quiet _ _ _ refl (λ d. cc);
+  cut = λ d. cc;
+  spent = λ d. inl refl;
+  complete = λ told calm. absurd (calm.read (unread.read.cause is));
+  words = λ d. cc;
+}
+unread_for answers source source' sink status unread (inr (inl is)) = record {
+  front = unread.front;
+  done = λ d. cc;
+  refused = λ refused. absurd (not_refused status (TooLarge Bytes) is refl refused);
+  large = unread.large;
+  exceeded = unread.exceeded;
+  read = unread.read;
+  write = quiet _ _ _ refl (λ d. cc);
+  cut = λ d. cc;
+  spent = λ d. inl refl;
+  complete = λ told calm. inl
+      (is ∙ due_to_many told (many_told source.bytes source'.bytes told calm.told unread.front (unread.large is)));
+  words = λ d. cc;
+}
+unread_for answers source source' sink status unread (inr (inr is)) = record {
+  front = unread.front;
+  done = λ d. cc;
+  refused = λ refused. absurd (not_refused status OutOfMemory is refl refused);
+  large = unread.large;
+  exceeded = unread.exceeded;
+  read = unread.read;
+  write = quiet _ _ _ refl (λ d. cc);
+  cut = λ d. cc;
+  spent = λ d. inl refl;
+  complete = λ told calm. inr is;
+  words = λ d. cc;
+}
+
+-- the source was not read to its end
+pub unread_ends : (answers : List ℕ → Result (List ℕ) Status → Type 0) (source source' sink : Seen) (status : Status)
+    → IsUnread source source' status → ScriptEnds answers source source' sink sink status
+unread_ends answers source source' sink status unread = unread_for answers source source' sink status unread unread.reason
 
 -- memory ran out before anything was written
-pub read_spent : (source source' sink : Seen) → (bytes : List ℕ) × Takes source.bytes source'.bytes bytes → source'.faults ≡ source.faults
-    → ReplayEnds source source' sink sink OutOfMemory
-read_spent source source' sink front same = record {
-  front = front;
+spent_ends : (answers : List ℕ → Result (List ℕ) Status → Type 0) (source source' sink : Seen) (bytes : List ℕ)
+    → IsRead source source' bytes → ScriptEnds answers source source' sink sink OutOfMemory
+spent_ends answers source source' sink bytes read = record {
+  front = (bytes, read.took);
   done = λ is. cc;
   refused = λ is. cc;
   large = λ is. cc;
   exceeded = λ more. inr refl;
-  read = quiet _ _ _ same (λ is. cc);
+  read = quiet _ _ _ read.same (λ is. cc);
   write = quiet _ _ _ refl (λ is. cc);
   cut = λ is. cc;
   spent = λ is. inl refl;
-  complete = λ bytes answer calm is. inr refl;
+  complete = λ told calm. inr refl;
   words = λ is. cc;
 }
 
--- the bytes read are no script
-no_script : (source source' sink : Seen) (bytes : List ℕ) (f : ScriptFault) → IsRead source source' bytes → parse bytes ≡ Err f
+-- the bytes read are refused for a fault of theirs
+refused_ends : (answers : List ℕ → Result (List ℕ) Status → Type 0) (source source' sink : Seen) (bytes : List ℕ) (f : ScriptFault)
+    → IsRead source source' bytes → parse bytes ≡ Err f → answers bytes (Err (status_of f))
     → status_of f ≢ Done → status_of f ≢ ReadFault → status_of f ≢ WriteFault → status_of f ≢ OutOfMemory → status_of f ≢ Usage
-    → status_of f ≢ TooLarge Bytes → ReplayEnds source source' sink sink (status_of f)
-no_script source source' sink bytes f read e not_done not_read not_write not_spent not_usage not_large = record {
+    → status_of f ≢ TooLarge Bytes → ScriptEnds answers source source' sink sink (status_of f)
+refused_ends answers source source' sink bytes f read e refused not_done not_read not_write not_spent not_usage not_large = record {
   front = (bytes, read.took);
   done = λ is. absurd (not_done is);
-  refused = λ is. (bytes, (read.took, read.ends), (f, e, refl));
+  refused = λ is. (bytes, (read.took, read.ends), refused);
   large = λ is. absurd (not_large is);
   exceeded = λ more. absurd (read.no_more more);
   read = quiet _ _ _ read.same not_read;
   write = quiet _ _ _ refl not_write;
   cut = λ is. absurd (not_write is);
   spent = λ is. absurd (not_spent is);
-  complete = λ told answer calm is.
-      let same = same_told source.bytes source'.bytes bytes told read.took read.ends calm.told in
-      inl (sym (refuses told f answer (ap parse same ∙ e) is));
+  complete = λ told calm. inl (due_to source source' bytes told (status_of f) read calm.told (ap read_status e));
   words = not_usage;
 }
 
@@ -99,51 +147,69 @@ not_bytes Labels bytes few e is = cc
 not_bytes LongText bytes few e is = cc
 not_bytes Rows bytes few e is = cc
 
-pub no_record : (source source' sink : Seen) (bytes : List ℕ) (f : ScriptFault) → IsRead source source' bytes → Fails f (parse bytes)
-    → ReplayEnds source source' sink sink (status_of f)
-no_record source source' sink bytes (BadLine line cause) read e =
-    no_script source source' sink bytes (BadLine line cause) read e (λ x. cc) (λ x. cc) (λ x. cc) (λ x. cc) (λ x. cc) (λ x. cc)
-no_record source source' sink bytes (Exceeds what) read e =
-    no_script source source' sink bytes (Exceeds what) read e (λ x. cc) (λ x. cc) (λ x. cc) (λ x. cc) (λ x. cc) (not_bytes what bytes read.few e)
-no_record source source' sink bytes Memory read e = read_spent source source' sink (bytes, read.took) read.same
+-- the bytes read are no script
+pub no_script_ends : (answers : List ℕ → Result (List ℕ) Status → Type 0) (source source' sink : Seen) (bytes : List ℕ) (f : ScriptFault)
+    → IsRead source source' bytes → Fails f (parse bytes) → ((status : Status) → IsNoScript bytes status → answers bytes (Err status))
+    → ScriptEnds answers source source' sink sink (status_of f)
+no_script_ends answers source source' sink bytes (BadLine line cause) read e refuse =
+    refused_ends answers source source' sink bytes (BadLine line cause) read e (refuse _ (BadLine line cause, e, refl)) (λ x. cc) (λ x. cc)
+    (λ x. cc) (λ x. cc) (λ x. cc) (λ x. cc)
+no_script_ends answers source source' sink bytes (Exceeds what) read e refuse =
+    refused_ends answers source source' sink bytes (Exceeds what) read e (refuse _ (Exceeds what, e, refl)) (λ x. cc) (λ x. cc) (λ x. cc)
+    (λ x. cc) (λ x. cc) (not_bytes what bytes read.few e)
+no_script_ends answers source source' sink bytes Memory read e refuse = spent_ends answers source source' sink bytes read
 
--- the script was replayed, and a front of its text was written
-is_cut : (source source' sink sink' : Seen) (bytes : List ℕ) (r : RunRecord) → IsRead source source' bytes → IsReplay bytes r
-    → AppendsFront sink.bytes sink'.bytes (show r) → IsCutShort replay_answers source source' sink sink'
-is_cut source source' sink sink' bytes r read (lines, parsed, is) front =
-    (bytes, show r, (read.took, read.ends), (lines, parsed, ap show is), front)
-
--- the sink failed
-pub write_failed : (source source' sink sink' : Seen) (bytes : List ℕ) (r : RunRecord) → IsRead source source' bytes → IsReplay bytes r
-    → AppendsFront sink.bytes sink'.bytes (show r) → sink.faults ≤ sink'.faults → Rose sink.faults sink'.faults
-    → ReplayEnds source source' sink sink' WriteFault
-write_failed source source' sink sink' bytes r read replayed front later rose = record {
+-- an answer was written
+pub written_ends : (answers : List ℕ → Result (List ℕ) Status → Type 0) (source source' sink sink' : Seen) (bytes text : List ℕ)
+    → IsRead source source' bytes → answers bytes (Ok text) → due_status bytes ≡ Done → IsWritten text sink sink'
+    → ScriptEnds answers source source' sink sink' Done
+written_ends answers source source' sink sink' bytes text read answer due written = record {
   front = (bytes, read.took);
-  done = λ is. cc;
+  done = λ is. (bytes, text, (read.took, read.ends), answer, written.all);
   refused = λ is. cc;
   large = λ is. cc;
   exceeded = λ more. absurd (read.no_more more);
   read = quiet _ _ _ read.same (λ is. cc);
-  write = loud _ _ _ later rose refl;
-  cut = λ is. is_cut source source' sink sink' bytes r read replayed front;
+  write = quiet _ _ _ written.same (λ is. cc);
+  cut = λ is. cc;
   spent = λ is. cc;
-  complete = λ told answer calm is. absurd (calm.written rose);
+  complete = λ told calm. inl (due_to source source' bytes told Done read calm.told due);
   words = λ is. cc;
 }
 
--- memory ran out in writing
-pub write_spent : (source source' sink sink' : Seen) (bytes : List ℕ) (r : RunRecord) → IsRead source source' bytes → IsReplay bytes r
-    → AppendsFront sink.bytes sink'.bytes (show r) → sink'.faults ≡ sink.faults → ReplayEnds source source' sink sink' OutOfMemory
-write_spent source source' sink sink' bytes r read replayed front same = record {
+unwritten_for : (answers : List ℕ → Result (List ℕ) Status → Type 0) (source source' sink sink' : Seen) (bytes text : List ℕ)
+    (status : Status) → IsRead source source' bytes → answers bytes (Ok text) → IsUnwritten text sink sink' status
+    → (status ≡ WriteFault) ⊎ (status ≡ OutOfMemory) → ScriptEnds answers source source' sink sink' status
+unwritten_for answers source source' sink sink' bytes text status read answer unwritten (inl is) = record {
   front = (bytes, read.took);
-  done = λ is. cc;
-  refused = λ is. cc;
-  large = λ is. cc;
-  exceeded = λ more. inr refl;
-  read = quiet _ _ _ read.same (λ is. cc);
-  write = quiet _ _ _ same (λ is. cc);
-  cut = λ is. cc;
-  spent = λ is. inr (is_cut source source' sink sink' bytes r read replayed front);
-  complete = λ told answer calm is. inr refl;
-  words = λ is. cc;
+  done = λ d. cc;
+  refused = λ refused. absurd (not_refused status WriteFault is refl refused);
+  large = λ d. cc;
+  exceeded = λ more. absurd (read.no_more more);
+  read = quiet _ _ _ read.same (λ d. cc);
+  write = unwritten.write;
+  cut = λ d. (bytes, text, (read.took, read.ends), answer, unwritten.front);
+  spent = λ d. cc;
+  complete = λ told calm. absurd (calm.written (unwritten.write.cause is));
+  words = λ d. cc;
 }
+unwritten_for answers source source' sink sink' bytes text status read answer unwritten (inr is) = record {
+  front = (bytes, read.took);
+  done = λ d. cc;
+  refused = λ refused. absurd (not_refused status OutOfMemory is refl refused);
+  large = λ d. cc;
+  exceeded = λ more. inr is;
+  read = quiet _ _ _ read.same (λ d. cc);
+  write = unwritten.write;
+  cut = λ d. cc;
+  spent = λ d. inr (bytes, text, (read.took, read.ends), answer, unwritten.front);
+  complete = λ told calm. inr is;
+  words = λ d. cc;
+}
+
+-- a front of an answer was written
+pub unwritten_ends : (answers : List ℕ → Result (List ℕ) Status → Type 0) (source source' sink sink' : Seen) (bytes text : List ℕ)
+    (status : Status) → IsRead source source' bytes → answers bytes (Ok text) → IsUnwritten text sink sink' status
+    → ScriptEnds answers source source' sink sink' status
+unwritten_ends answers source source' sink sink' bytes text status read answer unwritten =
+    unwritten_for answers source source' sink sink' bytes text status read answer unwritten unwritten.reason

@@ -1,6 +1,7 @@
 pub mod OneWord
 pub mod FewBytes
 pub mod Endings
+pub mod Replays
 pub mod NoFaults
 pub mod Malformed
 pub mod FaultsTold

@@ -7,7 +7,7 @@ use Rattle.outside.specs.Reading.{taken_count}
 use Rattle.script_spec.specs.declared.What.TheVariants.{Bytes}
 use Rattle.smack_program.specs.declared.status.Status.{Status}
 use Rattle.smack_program.specs.declared.status.Status.TheVariants.{Done, Usage, ReadFault, WriteFault, OutOfMemory, TooLarge}
-use Rattle.smack_program.specs.Statuses.{answer_status, is_refusal}
+use Rattle.smack_program.specs.Statuses.{is_refusal}
 
 -- A command answers the bytes that it reads: `answers bytes (Ok text)` says that this text is an answer to them, and
 -- `answers bytes (Err status)` that they are refused with this status.
@@ -37,9 +37,9 @@ pub record IsCalm (bytes : List ℕ) (source source' sink sink' : Seen) : Type 0
   pub written : Rose sink.faults sink'.faults → ⊥
 
 -- How a command ended that reads its input, of at most so many bytes, and writes an answer to it: what is seen of the
--- source before and after, the same of the sink, and the status.
-pub record CommandEnds (answers : List ℕ → Result (List ℕ) Status → Type 0) (most : ℕ) (source source' sink sink' : Seen)
-    (status : Status) : Type 0 where
+-- source before and after, the same of the sink, and the status. To bytes a status is due, unless something fails.
+pub record CommandEnds (answers : List ℕ → Result (List ℕ) Status → Type 0) (due : List ℕ → Status) (most : ℕ)
+    (source source' sink sink' : Seen) (status : Status) : Type 0 where
   -- what was taken from the source is a front of what it had
   pub front : (bytes : List ℕ) × Takes source.bytes source'.bytes bytes
   -- the source was read to its end, and an answer to the bytes read was written
@@ -56,8 +56,7 @@ pub record CommandEnds (answers : List ℕ → Result (List ℕ) Status → Type
   pub cut : status ≡ WriteFault → IsCutShort answers source source' sink sink'
   -- want of memory leaves nothing written, or a front of an answer
   pub spent : status ≡ OutOfMemory → (sink'.bytes ≡ sink.bytes) ⊎ IsCutShort answers source source' sink sink'
-  -- where nothing failed, bytes with an answer get it, but for want of memory
-  pub complete : (bytes : List ℕ) (answer : Result (List ℕ) Status) → IsCalm bytes source source' sink sink' → answers bytes answer
-      → (status ≡ answer_status answer) ⊎ (status ≡ OutOfMemory)
+  -- where nothing failed, the status is the one that is due to the bytes, but for want of memory
+  pub complete : (bytes : List ℕ) → IsCalm bytes source source' sink sink' → (status ≡ due bytes) ⊎ (status ≡ OutOfMemory)
   -- the words of the command line are those of a command
   pub words : status ≢ Usage

@@ -1,5 +1,7 @@
 pub mod Statuses
 pub mod Errors
 pub mod Ends
+pub mod Parts
+pub mod Scripts
 pub mod Replay
 pub mod Program

@@ -1,6 +1,8 @@
 use Rattle.std.specs.Prelude.{ℕ, Bool, true, false, List, Result, Ok, Err}
 use Rattle.script_spec.specs.declared.ScriptFault.{ScriptFault}
 use Rattle.script_spec.specs.declared.ScriptFault.TheVariants.{Malformed as BadLine, TooLarge as Exceeds, Memory}
+use Rattle.script_spec.specs.Grammar.{parse}
+use Rattle.script_spec.specs.Lines.{ScriptLine}
 use Rattle.script_spec.specs.declared.What.{What}
 use Rattle.script_spec.specs.declared.What.TheVariants.{Bytes, Lines, Tasks, Labels, Text, Rows}
 use Rattle.smack_program.specs.declared.status.Status.{Status}
@@ -12,10 +14,13 @@ status_of (BadLine line cause) = Malformed line cause
 status_of (Exceeds what) = TooLarge what
 status_of Memory = OutOfMemory
 
--- the status of an answer to the bytes read: a text that is written, or a refusal
-abbrev pub answer_status : Result (List ℕ) Status → Status
-answer_status (Ok text) = Done
-answer_status (Err status) = status
+-- the status that is due to bytes: a script is done, and other bytes are refused for their fault
+abbrev pub read_status : Result (List ScriptLine) ScriptFault → Status
+read_status (Ok lines) = Done
+read_status (Err fault) = status_of fault
+
+abbrev pub due_status : List ℕ → Status
+due_status bytes = read_status (parse bytes)
 
 -- the exit statuses
 abbrev pub code_of : Status → ℕ

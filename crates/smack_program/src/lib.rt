@@ -10,13 +10,15 @@
 
 mod calm;
 mod command;
-mod replaying;
+mod reading;
+mod records;
 mod running;
 mod status;
 mod telling;
 #[cfg(test)]
 mod tests;
 mod top;
+mod writing;
 
 pub use calm::replay_calm;
 pub use running::{Ending, program, told_main};
