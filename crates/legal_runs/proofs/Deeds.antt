@@ -211,3 +211,11 @@ batch_rising s t q (d ∷ ds) [] rest f = absurd f
 batch_rising s t q (entered e n ∷ ds) (l ∷ ls) rest f = rising_low (λ (b : Batch). b.task) (λ (b : Batch). b.seq) (q + 1) q (batches_in ds) (omega arith) (batch_rising s t (q + 1) ds ls rest f.1)
 batch_rising s t q (batched n b m ∷ ds) (l ∷ ls) rest f = let e = f.0.1 in (omega arith, rising_low (λ (b : Batch). b.task) (λ (b : Batch). b.seq) (q + 1) (b.seq + 1) (batches_in ds) (omega arith) (batch_rising s t (q + 1) ds ls rest f.1))
 batch_rising s t q (answered x m ∷ ds) (l ∷ ls) rest f = rising_low (λ (b : Batch). b.task) (λ (b : Batch). b.seq) (q + 1) q (batches_in ds) (omega arith) (batch_rising s t (q + 1) ds ls rest f.1)
+
+pub line_rising : (s : Scripted) (t q : ℕ) (ds : List Deed) (ls rest : List ScriptLine) → FitsTo s t q ds ls rest
+    → Rising (λ (a : AskedLine). a.task) (λ (a : AskedLine). a.seq) q (lines_of ds)
+line_rising s t q [] ls rest f = tt
+line_rising s t q (d ∷ ds) [] rest f = absurd f
+line_rising s t q (entered e n ∷ ds) (l ∷ ls) rest f = rising_low (λ (a : AskedLine). a.task) (λ (a : AskedLine). a.seq) (q + 1) q (lines_of ds) (omega arith) (line_rising s t (q + 1) ds ls rest f.1)
+line_rising s t q (batched n b m ∷ ds) (l ∷ ls) rest f = rising_low (λ (a : AskedLine). a.task) (λ (a : AskedLine). a.seq) (q + 1) q (lines_of ds) (omega arith) (line_rising s t (q + 1) ds ls rest f.1)
+line_rising s t q (answered a m ∷ ds) (l ∷ ls) rest f = let e = f.0.1 in (omega arith, rising_low (λ (x : AskedLine). x.task) (λ (x : AskedLine). x.seq) (q + 1) (a.seq + 1) (lines_of ds) (omega arith) (line_rising s t (q + 1) ds ls rest f.1))

@@ -254,7 +254,7 @@ module _ (full : Bool) (s : Scripted) (j : List Batch) (h : List Entry) where
   lift_wait : (ls ls' : List AskedLine) (t t' : ℕ) (ds ds' : List Deed) (ns ns' : List ℕ) (zp zp' : ℕ) (l : AskedLine) (pid : Pid) → ((k : ℕ) → Has k ns → asked_by k ls' ≡ asked_by k ls) → ((k : ℕ) → Has k ns → Has k ns') → zp ≤ zp' → (w : Awaits_ ls t ds ns zp l pid) → (((l.task ≡ t) × Later w.bound l ds) → Waiter ls' t' ds' ns' l w.bound) → Awaits_ ls' t' ds' ns' zp' l pid
   lift_wait ls ls' t t' ds ds' ns ns' zp zp' l pid e m up w v = record { bound = w.bound; up = let x = w.up in omega arith; waiter = ⊎_elim v (λ b. inr (m l.task b.0, lift ls ls' l.task (e l.task b.0) b.1, b.2)) w.waiter; number = w.number; place = w.place; fork = w.fork; there_ = w.there_; by = w.by; is = w.is; fam = w.fam; mine = w.mine; within = λ k g. m k (w.within k g); lives = λ k g. raise ls ls' k l.version l.version w.bound w.bound (e k (w.within k g)) (le_refl l.version) (le_refl w.bound) (w.lives k g); closed = w.closed }
 
-  plain_wait : (d : Deed) (l : AskedLine) (pid : Pid) → IsPlain d → Has l (asked_in d) → l.what ≡ Wait pid → ⊥
+  plain_wait : (d : Deed) (l : AskedLine) (pid : Pid) → IsPlain full d → Has l (asked_in d) → l.what ≡ Wait pid → ⊥
   plain_wait (entered e n) l pid p g i = elim g [ ]
   plain_wait (batched n b m) l pid p g i = elim g [ ]
   plain_wait (answered x m) l pid p here i = subst IsNoWait i p

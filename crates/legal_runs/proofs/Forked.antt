@@ -1,5 +1,5 @@
--- Where each fork of a run made a task, each fork of its history did.
-use Rattle.std.proofs.Common.{◌≡◌, ℕ, List, ◌∷◌, ◌++◌, Bool, true, false, sym, refl, ap, ◌∙◌, subst, ⊎_elim}
+-- Where nothing stopped, each fork of the history made a task.
+use Rattle.std.proofs.Common.{◌≡◌, ℕ, List, ◌∷◌, ◌++◌, true, false, sym, refl, ap, ◌∙◌, subst, ⊎_elim}
 use Rattle.smack_base.specs.declared.ids.Pid.{Pid}
 use Rattle.rules_spec.specs.declared.Batch.{Batch}
 use Rattle.world_spec.specs.declared.Call.TheVariants.{Task}
@@ -13,7 +13,6 @@ use Rattle.task_runs.specs.Scripts.{Scripted}
 use Rattle.task_runs.specs.Deeds.{entered, batched, answered, entries_in, Made}
 use Rattle.task_runs.specs.Runs.{Run, ends, does, forks, wait_deeds, own, numbers, AllMade, Kids}
 use Rattle.task_runs.proofs.Runs.{entries-append}
-use Rattle.legal_runs.specs.Forked.{EachForkMakes}
 use Rattle.legal_runs.proofs.Lists.{has_those}
 use Rattle.legal_runs.proofs.Kids.{no_entry}
 
@@ -23,18 +22,18 @@ MadeOne e = (k : ℕ) × (e.reply ≡ Child k)
 is_no_fork : (e : Entry) (pid : Pid) → is_fork e.call ≡ false → e.call ≡ Task (Fork pid) → ⊥
 is_no_fork e pid not is = absurd (let x : true ≡ false = sym (ap is_fork is) ∙ not in cc)
 
-module _ (full : Bool) (s : Scripted) (j : List Batch) (h : List Entry) (e : Entry) (there_ : Has e h) (pid : Pid) (is : e.call ≡ Task (Fork pid)) where
-  pub own_fork : (r : Run) → Kids full s r → EachForkMakes r → Has e (entries_in (own r)) → MadeOne e
-  own_fork ends q f g = elim g [ ]
-  own_fork (does (entered x n) r) q f g = by x e g refl f.0 (own_fork r q.1 f.1) is
+module _ (s : Scripted) (j : List Batch) (h : List Entry) (e : Entry) (there_ : Has e h) (pid : Pid) (is : e.call ≡ Task (Fork pid)) where
+  pub own_fork : (r : Run) → Kids true s r → Has e (entries_in (own r)) → MadeOne e
+  own_fork ends q g = elim g [ ]
+  own_fork (does (entered x n) r) q g = by x e g refl (q.0.1 refl) (own_fork r q.1) is
     where
       by : (x y : Entry) → Has y (x ∷ entries_in (own r)) → y ≡ e → is_fork x.call ≡ false → (Has e (entries_in (own r)) → MadeOne e)
           → e.call ≡ Task (Fork pid) → MadeOne e
       by x y here same not rest is = absurd (is_no_fork x pid not (ap (λ (z : Entry). z.call) same ∙ is))
       by x y (there u) same not rest is = rest (subst (λ z. Has z (entries_in (own r))) same u)
-  own_fork (does (batched n b m) r) q f g = own_fork r q.1 f.1 g
-  own_fork (does (answered l m) r) q f g = own_fork r q.1 f.1 g
-  own_fork (forks x n p y o c w r) q f g = by x e g refl q.1 (own_fork o q.4 f.0) (own_fork r q.6 f.2)
+  own_fork (does (batched n b m) r) q g = own_fork r q.1 g
+  own_fork (does (answered l m) r) q g = own_fork r q.1 g
+  own_fork (forks x n p y o c w r) q g = by x e g refl q.1 (own_fork o q.4) (own_fork r q.6)
     where
       by : (x z : Entry) → Has z (x ∷ entries_in (own o ++ (wait_deeds w ++ own r))) → z ≡ e → x.reply ≡ Child y
           → (Has e (entries_in (own o)) → MadeOne e) → (Has e (entries_in (own r)) → MadeOne e) → MadeOne e
@@ -45,22 +44,22 @@ module _ (full : Bool) (s : Scripted) (j : List Batch) (h : List Entry) (e : Ent
           (has_either (entries_in (wait_deeds w)) (entries_in (own r)) (subst (Has e) (entries-append (wait_deeds w) (own r)) u)))
           (has_either (entries_in (own o)) (entries_in (wait_deeds w ++ own r)) (subst (Has e) (entries-append (own o) (wait_deeds w ++ own r)) here_))
 
-  kid_fork : (y : ℕ) (c : Run) → Kids full s c → EachForkMakes c → Made j h y (own c)
+  kid_fork : (y : ℕ) (c : Run) → Kids true s c → Made j h y (own c)
       → ((x : ℕ) → e.task ≡ x → Has x (numbers c) → MadeOne e) → (x : ℕ) → e.task ≡ x → Has x (y ∷ numbers c) → MadeOne e
-  kid_fork y c q f m rec x i here = own_fork c q f (subst (Has e) m.entries (has_those (λ (z : Entry). z.task) y h e i there_))
-  kid_fork y c q f m rec x i (there u) = rec x i u
+  kid_fork y c q m rec x i here = own_fork c q (subst (Has e) m.entries (has_those (λ (z : Entry). z.task) y h e i there_))
+  kid_fork y c q m rec x i (there u) = rec x i u
 
-  pub below_fork : (r : Run) → Kids full s r → EachForkMakes r → AllMade j h r → (x : ℕ) → e.task ≡ x → Has x (numbers r) → MadeOne e
-  below_fork ends q f m x i u = elim u [ ]
-  below_fork (does d r) q f m x i u = below_fork r q.1 f.1 m x i u
-  below_fork (forks z n p y o c w r) q f m x i u =
-      ⊎_elim (λ v. below_fork o q.4 f.0 m.1 x i v)
-      (λ v. ⊎_elim (λ b. kid_fork y c q.5 f.1 m.0 (λ x' i' b'. below_fork c q.5 f.1 m.2 x' i' b') x i b)
-      (λ b. below_fork r q.6 f.2 m.3 x i b) (has_either (y ∷ numbers c) (numbers r) v))
+  pub below_fork : (r : Run) → Kids true s r → AllMade j h r → (x : ℕ) → e.task ≡ x → Has x (numbers r) → MadeOne e
+  below_fork ends q m x i u = elim u [ ]
+  below_fork (does d r) q m x i u = below_fork r q.1 m x i u
+  below_fork (forks z n p y o c w r) q m x i u =
+      ⊎_elim (λ v. below_fork o q.4 m.1 x i v)
+      (λ v. ⊎_elim (λ b. kid_fork y c q.5 m.0 (λ x' i' b'. below_fork c q.5 m.2 x' i' b') x i b)
+      (λ b. below_fork r q.6 m.3 x i b) (has_either (y ∷ numbers c) (numbers r) v))
       (has_either (numbers o) ((y ∷ numbers c) ++ numbers r) u)
 
   -- a fork of the task itself, or of one below it
-  pub any_fork : (t : ℕ) (r : Run) → Kids full s r → EachForkMakes r → AllMade j h r
+  pub any_fork : (t : ℕ) (r : Run) → Kids true s r → AllMade j h r
       → (Has e h → e.task ≡ t → Has e (entries_in (own r))) → (x : ℕ) → e.task ≡ x → Has x (t ∷ numbers r) → MadeOne e
-  any_fork t r q f m mine x i here = own_fork r q f (mine there_ i)
-  any_fork t r q f m mine x i (there u) = below_fork r q f m x i u
+  any_fork t r q m mine x i here = own_fork r q (mine there_ i)
+  any_fork t r q m mine x i (there u) = below_fork r q m x i u

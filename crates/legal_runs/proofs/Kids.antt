@@ -20,7 +20,7 @@ module _ (full : Bool) (s : Scripted) (j : List Batch) (h : List Entry) where
   -- what a task's own entries make is among its children
   pub own_child : (r : Run) → Kids full s r → (e : Entry) → Has e (entries_in (own r)) → (k : ℕ) → child_of e.reply ≡ Some k → Has k (numbers r)
   own_child ends q e g k is = elim g [ ]
-  own_child (does (entered x n) r) q e here k is = absurd (let z : None ≡ Some k = sym q.0 ∙ is in cc)
+  own_child (does (entered x n) r) q e here k is = absurd (let z : None ≡ Some k = sym q.0.0 ∙ is in cc)
   own_child (does (entered x n) r) q e (there g) k is = own_child r q.1 e g k is
   own_child (does (batched n b m) r) q e g k is = own_child r q.1 e g k is
   own_child (does (answered l m) r) q e g k is = own_child r q.1 e g k is

@@ -40,11 +40,11 @@ use Rattle.task_runs.proofs.Runs.{version_clock, place_clock}
 use Rattle.legal_runs.specs.Laws.{RunsAreLegal}
 use Rattle.legal_runs.proofs.Lists.{stands_has, has_stands}
 use Rattle.legal_runs.proofs.Deeds.{seq_of, fits_are, over_rises, ordered, rises_within, at_of, place_high_of, place_low_of, Saw, saw_low, place_order, Later}
-use Rattle.legal_runs.proofs.Lives.{Life, DeedOf, seqs_rise, entry_deed, batch_deed, line_deed, later_place}
+use Rattle.legal_runs.proofs.Lives.{Life, DeedOf, seqs_rise, line_seqs_rise, entry_deed, batch_deed, line_deed, later_place}
 use Rattle.legal_runs.proofs.Family.{Part, own_of, lift, find, Waiter, waits_in, line_task}
 use Rattle.legal_runs.proofs.Whole.{makes_own, all_numbers}
 use Rattle.legal_runs.proofs.Histories.{child_above, one_child, same_stand, versions_rise, versions_within}
-use Rattle.legal_runs.proofs.Sorting.{in_order, order_keeps, order_has}
+use Rattle.legal_runs.proofs.Sorting.{in_order, order_keeps, order_has, tasks_rise}
 use Rattle.legal_runs.proofs.Counts.{Counted, each_once}
 use Rattle.legal_runs.proofs.Creds.{creds_are}
 
@@ -232,6 +232,9 @@ module _ (full : Bool) (s : Scripted) (left : List ScriptLine) (done : full ≡ 
     once = λ k q. each_once s record_of k (counted k) q;
     rising = λ i k e f se sf lt same.
         seqs_rise full s j h ls f.task (life f.task (entry_task k f sf)) i k e f se sf same refl lt;
+    listed = λ i k a b sa sb lt. dite (ℕ_discrete a.task b.task)
+        (λ same. inr (same, line_seqs_rise full s j h ls b.task (life b.task (line_number k b sb)) i k a b sa sb same refl lt))
+        (λ other. let low = tasks_rise told i k a b sa sb lt in inl (omega (arith, low, other)));
     of_tasks = λ k q n r a. let L = life k (caller k q n r a) in (record { 0 = L.pid }, named k L);
     behind_fork = λ i k fork e pid st is se.
         let L = life e.task (entry_task k e se) in

@@ -18,12 +18,12 @@ use Rattle.legal_runs.proofs.Fitting.{ForksMade, fits_script}
 use Rattle.legal_runs.proofs.Forked.{any_fork}
 
 pub runs_are_legal_for_scripts : RunsAreLegalForScripts
-runs_are_legal_for_scripts bytes lines is table w told ran made closed c =
+runs_are_legal_for_scripts bytes lines is table w told ran closed c =
     let s = scripted lines in
     let g = ran.went in
     let done : true ≡ true → ran.left ≡ [] = λ _. ran.on refl in
     let forked : ForksMade w.history =
-    λ n e pid st call. any_fork true s w.journal w.history e (stands_has w.history n e st) pid call 0 g.run g.kids made g.others
+    λ n e pid st call. any_fork s w.journal w.history e (stands_has w.history n e st) pid call 0 g.run g.kids g.others
     (λ u i. subst (Has e) g.own_entries (has_those (λ (y : Entry). y.task) 0 w.history e i u)) e.task refl
     (entry_task true s ran.left done table w g (table_of lines) closed c n e st) in
     let legal = is_legal true s ran.left done table w g (table_of lines) closed c in

@@ -10,7 +10,7 @@ use Rattle.live_table.specs.Batches.{batches_by, task_of}
 use Rattle.task_runs.specs.Scripts.{Scripted, lines_by}
 use Rattle.task_runs.specs.Deeds.{entries_of, Deed, entered, batched, answered, entries_in, batches_in, AllAt, FitsTo, by_place}
 use Rattle.legal_runs.proofs.Lists.{Rising, rising_pairs, one_place, stands_has, has_those}
-use Rattle.legal_runs.proofs.Deeds.{lines_of, seq_of, need_of, reach_of, Rises, RisesBy, deed_of_entry, deed_of_batch, deed_of_line, at_of, entry_rising, batch_rising, fits_cut, Later}
+use Rattle.legal_runs.proofs.Deeds.{lines_of, seq_of, need_of, reach_of, Rises, RisesBy, deed_of_entry, deed_of_batch, deed_of_line, at_of, entry_rising, batch_rising, line_rising, fits_cut, Later}
 
 -- the asked, refused and waited lines of one task
 abbrev pub asked_by : ℕ → List AskedLine → List AskedLine
@@ -54,6 +54,15 @@ module _ (full : Bool) (s : Scripted) (j : List Batch) (h : List Entry) (ls : Li
   batches_rise =
       subst (Rising (λ (b : Batch). b.task) (λ (b : Batch). b.seq) 1) (sym L.batches)
       (batch_rising s k 1 L.calls (lines_by L.pid s.lines) L.rest L.fits)
+
+  lines_rise : Rising (λ (a : AskedLine). a.task) (λ (a : AskedLine). a.seq) 1 (asked_by k ls)
+  lines_rise =
+      subst (Rising (λ (a : AskedLine). a.task) (λ (a : AskedLine). a.seq) 1) (sym L.lines)
+      (line_rising s k 1 L.calls (lines_by L.pid s.lines) L.rest L.fits)
+
+  -- and so do its other lines
+  pub line_seqs_rise : (n m : ℕ) (a b : AskedLine) → Stands ls n a → Stands ls m b → a.task ≡ k → b.task ≡ k → n < m → a.seq < b.seq
+  line_seqs_rise n m a b = rising_pairs (λ (x : AskedLine). x.task) (λ (x : AskedLine). x.seq) k 1 ls lines_rise n m a b
 
   -- the object calls of a task stand in the order of their numbers
   pub seqs_rise : (n m : ℕ) (e f : Entry) → Stands h n e → Stands h m f → e.task ≡ k → f.task ≡ k → n < m → e.seq < f.seq

@@ -1,5 +1,5 @@
 -- The asked lines of a record: those of each task in their order.
-use Rattle.std.proofs.Common.{◌≡◌, ◌≢◌, ℕ, ◌≤◌, ◌<◌, List, [], ◌∷◌, ◌++◌, Bool, true, false, if◌then◌else◌, fold, sym, refl, ap, ◌∙◌, subst, arith, append_assoc, append-nil, nat_lt}
+use Rattle.std.proofs.Common.{◌≡◌, ◌≢◌, ℕ, zero, suc, ◌≤◌, ◌<◌, List, [], ◌∷◌, ◌++◌, Bool, true, false, if◌then◌else◌, fold, sym, refl, ap, ◌∙◌, subst, arith, append_assoc, append-nil, nat_lt}
 use Rattle.std.specs.List.{AllByRecursion}
 use Rattle.std.proofs.lemmas.Bool.{ltb-true, ltb-false}
 use mathlib.Core.Logic.{dite}
@@ -8,7 +8,8 @@ use Rattle.record_spec.specs.declared.AskedLine.{AskedLine}
 use Rattle.replay_spec.specs.Replays.{with_asked}
 use Rattle.live_table.specs.Lists.{Has, here, there}
 use Rattle.live_table.proofs.Lists.{those-append, those_none}
-use Rattle.legal_runs.proofs.Lists.{has_those, those_has}
+use Rattle.legal_spec.specs.Calls.{Stands}
+use Rattle.legal_runs.proofs.Lists.{same_some, stands_has, has_those, those_has}
 use Rattle.legal_runs.proofs.Lives.{asked_by}
 
 task_in : AskedLine → ℕ
@@ -99,3 +100,27 @@ pub order_has : (ls : List AskedLine) (l : AskedLine) → Has l (in_order ls) �
 order_has ls l h =
     (those_has (λ (x : AskedLine). x.task) l.task ls l
     (subst (Has l) (order_keeps l.task ls) (has_those (λ (x : AskedLine). x.task) l.task (in_order ls) l refl h))).1
+
+-- no line stands before one of a lower task
+sorted_pairs : (xs : List AskedLine) → AreSorted xs → (n m : ℕ) (a b : AskedLine) → Stands xs n a → Stands xs m b → n < m → a.task ≤ b.task
+sorted_pairs [] s n m a b sa sb lt = cc
+sorted_pairs (x ∷ xs) s n zero a b sa sb lt = absurd (omega arith)
+sorted_pairs (x ∷ xs) s zero (suc m) a b sa sb lt =
+    let same = same_some x a sa in
+    let low = from_has x.task xs s.0 b (stands_has xs m b sb) in
+    let e = ap (λ (y : AskedLine). y.task) same in omega arith
+  where
+    from_has : (k : ℕ) (ys : List AskedLine) → AllFrom k ys → (y : AskedLine) → Has y ys → k ≤ y.task
+    from_has k [] all y h = elim h [ ]
+    from_has k (z ∷ ys) all y here = all.0
+    from_has k (z ∷ ys) all y (there h) = from_has k ys all.1 y h
+sorted_pairs (x ∷ xs) s (suc n) (suc m) a b sa sb lt = sorted_pairs xs s.1 n m a b sa sb (omega arith)
+
+sorted_fold : (ls xs : List AskedLine) → AreSorted xs → AreSorted (fold with_asked xs ls)
+sorted_fold [] xs s = s
+sorted_fold (a ∷ ls) xs s = sorted_fold ls (with_asked xs a) (sorted_with xs a s)
+
+-- the lines stand by rising task
+pub tasks_rise : (ls : List AskedLine) (n m : ℕ) (a b : AskedLine) → Stands (in_order ls) n a → Stands (in_order ls) m b → n < m
+    → a.task ≤ b.task
+tasks_rise ls = sorted_pairs (in_order ls) (sorted_fold ls [] tt)

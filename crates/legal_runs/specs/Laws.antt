@@ -14,7 +14,6 @@ use Rattle.smack_kernel.specs.Tasks.{TaskValue, first_task}
 use Rattle.smack_kernel.specs.Answers.{IsWhole, ClosedValue, Closes}
 use Rattle.task_runs.specs.Scripts.{scripted, lines_by}
 use Rattle.task_runs.specs.Runs.{Ran}
-use Rattle.legal_runs.specs.Forked.{EachForkMakes}
 
 -- the first task of a kernel ran the first task of a script, to its end or, where it stopped, less far, and asked these
 abbrev pub FirstRan : Bool → List ScriptLine → TableId → TaskValue → List AskedLine → Type 0
@@ -43,11 +42,11 @@ RunsAreLegal =
     → FirstRan false lines table w asked → (closed : ClosedValue) → Closes (table_of lines) w closed
     → IsLegal (run_record lines closed asked)
 
--- and it is legal for the script, where each fork made a task
+-- and it is legal for the script
 abbrev pub RunsAreLegalForScripts : Type 0
 RunsAreLegalForScripts =
     (bytes : List ℕ) (lines : List ScriptLine) → parse bytes ≡ Ok lines → (table : TableId) (w : TaskValue) (asked : List AskedLine)
-    (ran : FirstRan false lines table w asked) → EachForkMakes ran.went.run → (closed : ClosedValue)
+    → FirstRan false lines table w asked → (closed : ClosedValue)
     → Closes (table_of lines) w closed → IsLegalFor lines (run_record lines closed asked)
 
 -- and it is plain

@@ -1,2 +1,1 @@
-pub mod Forked
 pub mod Laws

@@ -16,7 +16,7 @@ pub fn runs_are_legal()
     ensures { RunsAreLegal }
 {}
 
-/// The law: it is legal for the script, where each fork made a task.
+/// The law: it is legal for the script.
 pub fn runs_are_legal_for_scripts()
     ensures { RunsAreLegalForScripts }
 {}

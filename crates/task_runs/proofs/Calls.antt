@@ -100,7 +100,7 @@ ran_unchanged s ls rest v w x y top e =
 
 -- one call was made
 pub went_one : (full : Bool) (s : Scripted) (l : ScriptLine) (ls : List ScriptLine) (v w : TaskValue) (d : Deed)
-    → Does v w (batches_in (d ∷ [])) (entries_in (d ∷ [])) → w.made ≡ v.made + 1 → Fits s v.number (v.made + 1) d l → IsPlain d
+    → Does v w (batches_in (d ∷ [])) (entries_in (d ∷ [])) → w.made ≡ v.made + 1 → Fits s v.number (v.made + 1) d l → IsPlain full d
     → IsAt w.journal w.history v.number d → by_version v.version d w.version → by_place (length v.history) d (length w.history)
     → Went full s (l ∷ ls) ls v w
 went_one full s l ls v w d does_ made fits plain at fresh placed = let g = does_.grows in record {
@@ -128,11 +128,12 @@ went_one full s l ls v w d does_ made fits plain at fresh placed = let g = does_
 
 -- a line that became an entry and made no task
 pub went_entry : (full : Bool) (s : Scripted) (l : ScriptLine) (ls : List ScriptLine) (v w : TaskValue) (call : Call) (r : Entered)
-    → IsCallOfLine s.labels s.names l call → Calls v w call r → child_of r.reply ≡ None → Went full s (l ∷ ls) ls v w
-went_entry full s l ls v w call r line c none =
+    → IsCallOfLine s.labels s.names l call → Calls v w call r → child_of r.reply ≡ None → (full ≡ true → is_fork call ≡ false)
+    → Went full s (l ∷ ls) ls v w
+went_entry full s l ls v w call r line c none other =
     let e = c.enters in
     let x : Entry = entry_of v.number (v.made + 1) call r.version r.checks r.reply in
-    went_one full s l ls v w (entered x (length e.before)) c.does c.made (refl, refl, line) none
+    went_one full s l ls v w (entered x (length e.before)) c.does c.made (refl, refl, line) (none, other)
     (stands_last w.history e.before x e.is)
     (let a = c.does.later in let b = c.now in (omega arith, omega arith))
     (let a = begins_length e.more in let b = ap length e.is in let d = length-append e.before (x ∷ []) in (omega arith, omega arith))
@@ -207,7 +208,7 @@ pub ran_entry : (s : Scripted) (l : ScriptLine) (ls : List ScriptLine) (v w : Ta
 unfolding went_entry went_one
 ran_entry s l ls v w x call r line plain c = record {
   left = ls;
-  went = went_entry true s l ls v w call r line c (no_child v w call r plain c);
+  went = went_entry true s l ls v w call r line c (no_child v w call r plain c) (λ _. plain);
   on = λ _. refl;
   asked = λ _. sym (append-nil x);
 }

@@ -11,7 +11,7 @@ use Rattle.live_table.specs.Batches.{batches_by}
 use Rattle.live_table.proofs.Lists.{has_left, has_right, has_either, begins_trans}
 use Rattle.smack_kernel.specs.Tasks.{TaskValue}
 use Rattle.task_runs.specs.Scripts.{Scripted}
-use Rattle.task_runs.specs.Deeds.{entries_of, Deed, entered, batched, answered, asked_in, entries_in, batches_in, AllAt, FitsTo, by_version, by_place, IsSeen}
+use Rattle.task_runs.specs.Deeds.{entries_of, Deed, entered, batched, answered, asked_in, entries_in, batches_in, AllAt, FitsTo, IsPlain, by_version, by_place, IsSeen}
 use Rattle.task_runs.specs.Runs.{Run, ends, does, forks, waited, wait_deeds, own, numbers, asked_of, AllMade, Over, Kids, Distinct, Went, Ran}
 use Rattle.task_runs.proofs.Growing.{all_at-grow, all_made-grow}
 
@@ -129,9 +129,14 @@ kids-then full s ends t a b = b
 kids-then full s (does d r) t a b = (a.0, kids-then full s r t a.1 b)
 kids-then full s (forks e n pid k o c w r) t a b = (a.0, a.1, a.2, a.3, a.4, a.5, kids-then full s r t a.6 b)
 
+plain-any : (full : Bool) (d : Deed) → IsPlain true d → IsPlain full d
+plain-any full (entered e n) p = (p.0, λ _. p.1 refl)
+plain-any full (batched n b m) p = tt
+plain-any full (answered l m) p = p
+
 pub kids-any : (full : Bool) (s : Scripted) (r : Run) → Kids true s r → Kids full s r
 kids-any full s ends a = tt
-kids-any full s (does d r) a = (a.0, kids-any full s r a.1)
+kids-any full s (does d r) a = (plain-any full d a.0, kids-any full s r a.1)
 kids-any full s (forks e n pid k o c w r) a = let x = a.3 in (
   a.0,
   a.1,

@@ -1,4 +1,4 @@
-use Rattle.std.specs.Prelude.{◌≡◌, ℕ, ◌+◌, ◌<◌, ◌≤◌, List, [], ◌∷◌, length, take, true, false, None}
+use Rattle.std.specs.Prelude.{◌≡◌, ℕ, ◌+◌, ◌<◌, ◌≤◌, List, [], ◌∷◌, length, take, Bool, true, false, None}
 use Rattle.std.specs.List.{AllByRecursion}
 use Rattle.smack_base.specs.declared.cap.Cap.TheVariants.{MacAdmin}
 use Rattle.rules_spec.specs.declared.Batch.{Batch}
@@ -17,6 +17,7 @@ use Rattle.live_table.specs.Batches.{batches_by}
 use Rattle.legal_spec.specs.Calls.{Stands}
 use Rattle.legal_spec.specs.Legal.{rows_of}
 use Rattle.legal_spec.specs.Lines.{IsBatchOfLine, IsCallOfLine, IsAskedOfLine}
+use Rattle.smack_kernel.specs.Answers.{is_fork}
 use Rattle.smack_kernel.specs.Histories.{world_means, child_of}
 use Rattle.live_table.specs.Machines.{entries_by}
 use Rattle.task_runs.specs.Scripts.{Scripted}
@@ -111,11 +112,11 @@ IsNoWait (Ask verdict) = Unit {0}
 IsNoWait (Refused file fault) = Unit {0}
 IsNoWait (Wait pid) = ⊥
 
--- a call that makes no task and waits for none
-abbrev pub IsPlain : Deed → Type 0
-IsPlain (entered e n) = child_of e.reply ≡ None
-IsPlain (batched n b m) = Unit {0}
-IsPlain (answered l m) = IsNoWait l.what
+-- a call that makes no task and waits for none; where nothing stopped, it is no fork
+abbrev pub IsPlain : Bool → Deed → Type 0
+IsPlain full (entered e n) = (child_of e.reply ≡ None) × (full ≡ true → is_fork e.call ≡ false)
+IsPlain full (batched n b m) = Unit {0}
+IsPlain full (answered l m) = IsNoWait l.what
 
 -- the version that a call needs, and that which it reaches
 abbrev pub by_version : ℕ → Deed → ℕ → Type 0

@@ -80,7 +80,7 @@ pub record IsChild (full : Bool) (s : Scripted) (pid k : ℕ) (ds : List Deed) :
 -- or awaits a task
 abbrev pub Kids : Bool → Scripted → Run → Type 0
 Kids full s ends = Unit {0}
-Kids full s (does d r) = IsPlain d × Kids full s r
+Kids full s (does d r) = IsPlain full d × Kids full s r
 Kids full s (forks e n pid k mine theirs wait after) =
     (e.call ≡ Task (Fork (record { 0 = pid }))) × (e.reply ≡ Child k) × IsWaitOf pid wait × IsChild full s pid k (own theirs)
     × Kids full s mine × Kids full s theirs × Kids full s after
