@@ -62,7 +62,8 @@ impl AskedByTask {
     }
 }
 
-fn append(lines: &mut AskedLines, more: AskedLines) -> Result<(), AllocError>
+/// Puts lines behind others.
+pub fn append(lines: &mut AskedLines, more: AskedLines) -> Result<(), AllocError>
     ensures { OnOk result (lines.new ≡ lines.old ++ more) }
 {
     lines.reserve(more.items().len())?;

@@ -9,5 +9,5 @@
 
 mod by_task;
 
-pub use by_task::AskedByTask;
+pub use by_task::{AskedByTask, append};
 pub use record_spec::{AskedLine, AskedLines, AskedWhat};

@@ -4,3 +4,8 @@ pub mod PackedWords
 pub mod Pids
 pub mod PlainRecords
 pub mod LegalRecords
+pub mod LineActs
+pub mod LinePlaces
+pub mod Working
+pub mod ForkLines
+pub mod Closing

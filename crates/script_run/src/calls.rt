@@ -3,6 +3,7 @@ ghost use Rattle.std.specs.Str.{bytes_eq};
 ghost use Rattle.script_spec.specs.Grammar.{most_tasks};
 ghost use Rattle.script_text.specs.Lines.{call_seen};
 ghost use Rattle.script_spec.specs.Words.{signal_of as signal_of_word, trace_way_of as way_of_word};
+ghost use Rattle.replay_spec.specs.Replays.{modes_in as modes_of_word};
 ghost use Rattle.replay_spec.specs.Calls.{of_two, traced, path_in as path_of_word, pid_in as pid_of_word, task_call as task_call_of, tree_call as tree_call_of};
 
 use crate::words::words_of;
@@ -10,7 +11,7 @@ use label_table::Labels;
 use script_text::{
     Line, MOST_BYTES, TaskVerb, TraceWay, TreeVerb, cap_of, number_of, signal_of, trace_way_of,
 };
-use smack_base::{Bytes, Path, PathFault, Pid};
+use smack_base::{Bytes, Modes, Path, PathFault, Pid};
 use smack_world::{TaskCall, TreeCall};
 use std::alloc::{AllocError, Global};
 
@@ -132,5 +133,16 @@ pub fn tree_call(
             None => Ok(None),
         },
         TreeVerb::List => listing(alloc, line),
+    }
+}
+
+/// The modes that a word is, where it has no bad letter.
+pub fn modes_in(word: &[u8]) -> Option<Modes>
+    ensures { result ≡ modes_of_word word.now }
+{
+    if Modes::are_letters(word) {
+        Some(Modes::of(word))
+    } else {
+        None
     }
 }

@@ -35,7 +35,7 @@ fn run_lines(
 }
 
 /// The names of tasks, copied.
-fn names_of(alloc: Global, tasks: &[Part<'_>]) -> Result<NameList, AllocError>
+pub fn names_of(alloc: Global, tasks: &[Part<'_>]) -> Result<NameList, AllocError>
     ensures { IfOk result (λ names. names ≡ names_in tasks.now) }
 {
     let mut names = NameList::new(alloc);

@@ -13,7 +13,7 @@ ghost use Rattle.replay_spec.specs.Replays.{modes_in as modes_of_word, number_of
 ghost use Rattle.smack_world.specs.Stepping.{most_entries};
 ghost use Rattle.script_run.specs.Running.{seen, IsRunning, Runs};
 
-use crate::calls::{pid_in, task_call, tree_call};
+use crate::calls::{modes_in, pid_in, task_call, tree_call};
 use crate::words::words_of;
 use asked_lines::{AskedByTask, AskedLine, AskedWhat};
 use label_table::Labels;
@@ -269,16 +269,5 @@ impl Runner {
             Some(Verb::Tree(verb)) => self.tree_line(alloc, line, verb),
             None => Ok(()),
         }
-    }
-}
-
-/// The modes that a word is, where it has no bad letter.
-fn modes_in(word: &[u8]) -> Option<Modes>
-    ensures { result ≡ modes_of_word word.now }
-{
-    if Modes::are_letters(word) {
-        Some(Modes::of(word))
-    } else {
-        None
     }
 }

@@ -1,0 +1,54 @@
+-- The end of a run: its first task may close the kernel, and the record is legal for the script and plain.
+use Rattle.std.proofs.Common.{◌≡◌, ℕ, Bool, false, List, [], sym, subst}
+use Rattle.atomic_table.specs.Seated.{TableId}
+use Rattle.script_spec.specs.Lines.{ScriptLine, table_of}
+use Rattle.record_spec.specs.declared.AskedLine.{AskedLine}
+use Rattle.record_spec.specs.declared.RunRecord.{RunRecord}
+use Rattle.replay_spec.specs.Plain.{IsPlain}
+use Rattle.legal_spec.specs.Fits.{IsLegalFor}
+use Rattle.smack_kernel.specs.Tasks.{TaskValue, first_task}
+use Rattle.smack_kernel.specs.Answers.{IsWhole, ClosedValue, Closes}
+use Rattle.task_runs.specs.Scripts.{scripted, lines_by}
+use Rattle.task_runs.specs.Runs.{Ran}
+use Rattle.legal_runs.specs.Laws.{FirstRan, run_record}
+use Rattle.legal_runs.proofs.Whole.{runs_are_whole}
+use Rattle.legal_runs.proofs.LegalFor.{runs_are_legal_for_scripts}
+use Rattle.legal_runs.proofs.Plain.{runs_are_plain}
+use Rattle.script_run.specs.Closings.{IsScript, HasRun}
+
+module _ (lines : List ScriptLine) (read : IsScript lines) where
+  -- the first task of a kernel may close it, however far it came
+  pub may_close : (stop : Bool) (table : TableId) (v w : TaskValue) (asked : List AskedLine) → v ≡ first_task table
+      → Ran stop (scripted lines) (lines_by 0 lines) [] v w [] asked → IsWhole w
+  may_close stop table v w asked first ran =
+      runs_are_whole read.0 lines read.1 stop table w asked
+      (subst (λ (u : TaskValue). Ran stop (scripted lines) (lines_by 0 lines) [] u w [] asked) first ran)
+
+  -- the record of what was closed, with the labels of the closed kernel, is that with the labels of the script
+  module _ (closed : ClosedValue) (asked : List AskedLine) (report : RunRecord) (has : HasRun lines closed asked)
+      (is : report ≡ record (run_record lines closed asked) { labels = closed.labels }) where
+    as_closed : (P : RunRecord → Type 0) → P (run_record lines closed asked) → P report
+    as_closed P p = subst P (sym is)
+        (subst (λ labels. P (record (run_record lines closed asked) { labels = labels })) (sym has.closes.labels_are) p)
+
+    -- it is legal for the script
+    pub is_legal_for : IsLegalFor lines report
+    is_legal_for = as_closed (IsLegalFor lines)
+        (runs_are_legal_for_scripts read.0 lines read.1 has.table has.task asked has.ran closed has.closes)
+
+    -- it is plain
+    pub is_plain : IsPlain report
+    is_plain = as_closed IsPlain (runs_are_plain read.0 lines read.1 has.table has.task asked has.ran closed has.closes)
+
+-- a worker that did not stop ran all lines
+pub has_run : (lines : List ScriptLine) (stop : Bool) (table : TableId) (v w : TaskValue) (asked : List AskedLine) (labels : List (List ℕ))
+    (closed : ClosedValue) → v ≡ first_task table → Ran stop (scripted lines) (lines_by 0 lines) [] v w [] asked → stop ≡ false
+    → labels ≡ table_of lines → Closes labels w closed → HasRun lines closed asked
+has_run lines stop table v w asked labels closed first ran on named closes = record {
+  table = table;
+  task = w;
+  ran =
+      subst (λ (s : Bool). FirstRan s lines table w asked) on
+      (subst (λ (u : TaskValue). Ran stop (scripted lines) (lines_by 0 lines) [] u w [] asked) first ran);
+  closes = subst (λ ls. Closes ls w closed) named closes;
+}

@@ -1,0 +1,92 @@
+-- No line of a task stands before the line that forks it.
+use Rattle.std.proofs.Common.{◌≡◌, ◌≢◌, ℕ, zero, suc, ◌+◌, ◌<◌, ◌≤◌, ◌⊎◌, inl, inr, ⊎_elim, List, [], ◌∷◌, ◌++◌, length, refl, sym, ap, subst, ◌∙◌, arith, append_assoc, append-nil, Some, None, Ok, length-append}
+use Rattle.std.specs.Prelude.{take, codes, Option}
+use Rattle.std.specs.List.{flat_map}
+use Rattle.std.proofs.lemmas.Grind.{flat_map-append}
+use Rattle.smack_base.specs.declared.ids.Pid.{Pid}
+use Rattle.world_spec.specs.declared.TaskCall.TheVariants.{Fork}
+use Rattle.world_spec.specs.declared.Call.TheVariants.{Task}
+use Rattle.script_spec.specs.Lines.{ScriptLine, word_in, verb_in, table_of}
+use Rattle.script_spec.specs.Tasks.{task_names, forked_name, change_by, change_of}
+use Rattle.script_spec.specs.Grammar.{parse}
+use Rattle.replay_spec.specs.Calls.{pid_in, call_of_line}
+use Rattle.replay_spec.specs.Plain.{IsNameTable}
+use Rattle.plain_records.proofs.GoodLines.{IsGoodLine, AreGoodLines, good_lines}
+use Rattle.plain_records.proofs.Tasks.{names_are_a_table}
+use Rattle.replayed_records.proofs.InStep.{next_pid}
+use Rattle.legal_replays.proofs.ForkLines.{fork_line}
+use Rattle.legal_replays.proofs.Growth.{tasks_more}
+use Rattle.legal_spec.specs.Calls.{Stands}
+use Rattle.live_table.specs.Lists.{Has, here, there}
+use Rattle.live_table.proofs.Lists.{has_either, those_none}
+use Rattle.task_runs.specs.Scripts.{scripted, lines_by, ForksFirst}
+
+same_line : (x y : ScriptLine) → ◌≡◌ {A = Option ScriptLine} (Some x) (Some y) → x ≡ y
+same_line x y is = cc
+
+same_pid : (x y : Pid) → ◌≡◌ {A = Option Pid} (Some x) (Some y) → x.0 ≡ y.0
+same_pid x y is = ap (λ (o : Option Pid). pid_or_zero o) is where
+  pid_or_zero : Option Pid → ℕ
+  pid_or_zero None = 0
+  pid_or_zero (Some p) = p.0
+
+-- a line of one line is this line
+its_task : (many : ℕ) (x l : ScriptLine) → l.task < many → Has x (l ∷ []) → x.task < many
+its_task many x l low here = low
+its_task many x l low (there none) = elim none [ ]
+
+-- the tasks of these lines have names among the first ones
+abbrev AreNamed : List ScriptLine → ℕ → Type 0
+AreNamed ls many = (x : ScriptLine) → Has x ls → x.task < many
+
+module _ (labels names : List (List ℕ)) (table : IsNameTable names) where
+  -- the pid of a task that a line forks is the number of the tasks above
+  new_pid : (above ls : List ScriptLine) (l : ScriptLine) (pid : Pid) → names ≡ task_names (above ++ l ∷ ls)
+      → call_of_line labels names l ≡ Some (Task (Fork pid)) → pid.0 ≡ length (task_names above)
+  new_pid above ls l pid whole forks =
+      let f : ScriptLine → List (List ℕ) = λ x. forked_name (change_of x) in
+      let line = fork_line labels names l pid forks in
+      let one : forked_name (change_of l) ≡ word_in 1 l ∷ [] = ap (λ v. forked_name (change_by v l)) line.0 in
+      let cut : flat_map f (above ++ l ∷ ls) ≡ flat_map f above ++ (word_in 1 l ∷ flat_map f ls) =
+      flat_map-append f above (l ∷ ls) ∙ ap (λ ns. flat_map f above ++ (ns ++ flat_map f ls)) one in
+      let split : names ≡ task_names above ++ (word_in 1 l ∷ flat_map f ls) = whole ∙ ap (λ ns. codes "init" ∷ ns) cut in
+      same_pid pid (record { 0 = length (task_names above) })
+      (sym line.1 ∙ next_pid names (task_names above) (word_in 1 l) (flat_map f ls) split table)
+
+  named_more : (above : List ScriptLine) (l : ScriptLine) → IsGoodLine above l → AreNamed above (length (task_names above))
+      → AreNamed (above ++ l ∷ []) (length (task_names (above ++ l ∷ [])))
+  named_more above l good named x has = ⊎_elim
+      (λ (old : Has x above). omega (arith, named x old, tasks_more above l))
+      (its_task (length (task_names (above ++ l ∷ []))) x l (omega (arith, good.there, tasks_more above l)))
+      (has_either above (l ∷ []) has)
+
+  up_to : (above : List ScriptLine) (l : ScriptLine) → IsGoodLine above l → AreNamed above (length (task_names above))
+      → AreNamed (above ++ l ∷ []) (length (task_names above))
+  up_to above l good named x has = ⊎_elim
+      (λ (old : Has x above). named x old)
+      (its_task (length (task_names above)) x l good.there)
+      (has_either above (l ∷ []) has)
+
+  before_fork : (above ls : List ScriptLine) → AreGoodLines above ls → names ≡ task_names (above ++ ls)
+      → AreNamed above (length (task_names above)) → (n : ℕ) (l : ScriptLine) (pid : Pid) → Stands ls n l
+      → call_of_line labels names l ≡ Some (Task (Fork pid)) → AreNamed (above ++ take (suc n) ls) pid.0
+  before_fork above [] good whole named n l pid at forks = cc
+  before_fork above (x ∷ ls) good whole named zero l pid at forks =
+      let same = same_line x l at in
+      subst (AreNamed (above ++ x ∷ []))
+      (sym (new_pid above ls x pid whole (ap (λ y. call_of_line labels names y) same ∙ forks)))
+      (up_to above x good.0 named)
+  before_fork above (x ∷ ls) good whole named (suc n) l pid at forks =
+      subst (λ (xs : List ScriptLine). AreNamed xs pid.0) (append_assoc above (x ∷ []) (take (suc n) ls))
+      (before_fork (above ++ x ∷ []) ls good.1 (whole ∙ ap task_names (sym (append_assoc above (x ∷ []) ls)))
+      (named_more above x good.0 named) n l pid at forks)
+
+-- no line of a task of a script stands before the line that forks it
+pub forks_come_first : (bytes : List ℕ) (lines : List ScriptLine) → parse bytes ≡ Ok lines → ForksFirst (scripted lines)
+forks_come_first bytes lines read l n pid at forks =
+    let table = names_are_a_table bytes lines read in
+    let named = before_fork (table_of lines) (task_names lines) table [] lines (good_lines bytes lines read) refl
+    (λ x none. elim none [ ]) n l (record { 0 = pid }) at forks in
+    let next : n + 1 ≡ suc n = omega arith in
+    ap (λ m. lines_by pid (take m lines)) next
+    ∙ those_none (λ x. x.task) pid (take (suc n) lines) (λ x has is. absurd (omega (arith, named x has, is)))

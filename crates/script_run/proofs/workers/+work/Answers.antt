@@ -1,0 +1,62 @@
+use Rattle.std.proofs.Common.{rules, arith, refl, sym, ap, ◌∙◌, subst, ◌≡◌, ◌∷◌, [], ◌+◌, ◌<◌, ◌≤◌, take, map, length, is_some, true, false}
+use Rattle.script_text.specs.Lines.{call_seen}
+use Rattle.task_runs.specs.Scripts.{segment}
+use Rattle.task_runs.proofs.Calls.{ran_none, ran_unchanged}
+use Rattle.script_run.specs.Stages.{script_of, IsForked}
+use Rattle.script_run.proofs.Working.{unforked, fork_lines, go_on, go_stops}
+use Rattle.script_run.proofs.workers.+work.Goals as goal
+
+pub fork_line-returns-in-Err-clause-ran : goal.fork_line-returns-in-Err-clause-ran
+fork_line-returns-in-Err-clause-ran g t c =
+    let ls = segment c.args.pid c.args.at c.args.to (g.S.ScriptLines.told c.args.stage.script.now) in
+    unforked (script_of g.S.ScriptLines.told c.args.stage) (call_seen c.args.line.now) ls ls c.args.task c.fork.new.task c.args.asked c.args.asked c.args.child
+    c.requires.line (subst (IsForked c.args.task c.fork.new.task c.args.child) c.in-Err.is c.fork.ensures)
+
+pub fork_line-returns-in-Ok-clause-ran : goal.fork_line-returns-in-Ok-clause-ran
+fork_line-returns-in-Ok-clause-ran g t c =
+    let f = subst (IsForked c.args.task c.fork.new.task c.args.child) c.in-Ok.is c.fork.ensures in
+    let h = c.halves-mine.result in
+    let p = c.wait_place-until.ensures.place in
+    let q = c.requires.place in
+    fork_lines (script_of g.S.ScriptLines.told c.args.stage) c.args.pid c.args.child c.args.at c.wait_place-until.result c.args.to (length (g.S.ScriptLines.told c.args.stage.script.now))
+    c.meet.result.at (call_seen c.args.line.now) c.args.task c.fork.new.task h.0.task c.in-Ok.kid h.1.task c.meet.result.worked.task f.0
+    c.args.asked h.0.asked h.1.asked c.meet.result.worked.asked (is_some h.0.stop) (is_some h.1.stop) (is_some c.meet.result.worked.stop)
+    p.0 p.1 (omega arith) refl c.requires.first c.requires.line f.1 f.2 f.3 c.halves-mine.ensures.mine c.halves-mine.ensures.theirs
+    c.meet.ensures c.wait_place-until.ensures.line
+
+pub go-loop-line-init : goal.go-loop-line-init
+go-loop-line-init g t c = record {
+  place = (omega arith, c.requires.place.0);
+  table = c.requires.table;
+  top = c.requires.top;
+  ran = ran_none (script_of g.S.ScriptLines.told c.args.stage) (segment c.args.pid c.args.from c.args.to (g.S.ScriptLines.told c.args.stage.script.now)) c.args.task
+      c.args.asked c.requires.top;
+}
+
+pub go-returns-then-is_some : goal.go-returns-then-is_some
+go-returns-then-is_some g t c = let r = c.step-worked.result in
+    go_stops (script_of g.S.ScriptLines.told c.args.stage) (segment c.args.pid c.args.from c.args.to (g.S.ScriptLines.told c.args.stage.script.now)) c.args.task
+    c.loop-line.task r.worked.task c.args.asked c.loop-line.asked r.worked.asked _ _ _ (is_some r.worked.stop) c.loop-line.invariant.ran
+    c.in-Some.ensures.line c.step-worked.ensures.ran (sym c.is_some.ensures ∙ c.if-is_some.true) []
+
+pub go-loop-line-preserved : goal.go-loop-line-preserved
+go-loop-line-preserved g t c =
+    let r = c.step-worked.result in
+    let e = sym c.is_some.ensures ∙ c.if-is_some.false in
+    let p = c.step-worked.ensures.place e in
+    let i = c.loop-line.invariant in
+    let n = c.in-Some.ensures.place in
+    let line = c.step-worked.ensures.ran in record {
+      place = (omega arith, omega arith);
+      table = line.went.table ∙ i.table;
+      top = line.went.within;
+      ran = go_on (script_of g.S.ScriptLines.told c.args.stage) (segment c.args.pid c.args.from c.args.to (g.S.ScriptLines.told c.args.stage.script.now)) c.args.task
+          c.loop-line.task r.worked.task c.args.asked c.loop-line.asked r.worked.asked _ _ _ (is_some r.worked.stop) i.ran
+          c.in-Some.ensures.line line e;
+    }
+
+pub step-returns-clause-ran : goal.step-returns-clause-ran
+step-returns-clause-ran g t c =
+    let ls = segment c.args.pid c.args.at c.args.to (g.S.ScriptLines.told c.args.stage.script.now) in
+    ran_unchanged (script_of g.S.ScriptLines.told c.args.stage) (call_seen c.args.line.now ∷ ls) ls c.args.task c.args.task c.args.asked c.args.asked
+    c.requires.top refl

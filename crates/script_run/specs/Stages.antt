@@ -1,0 +1,21 @@
+use Rattle.std.specs.Prelude.{◌≡◌, ◌⊎◌, ℕ, List, Option, None, Result, Ok, Err}
+use Rattle.smack_base.specs.declared.ids.Pid.{Pid}
+use Rattle.world_spec.specs.declared.Call.TheVariants.{Task}
+use Rattle.world_spec.specs.declared.TaskCall.TheVariants.{Fork}
+use Rattle.world_spec.specs.declared.Reply.TheVariants.{Child}
+use Rattle.script_spec.specs.Lines.{ScriptLine}
+use Rattle.smack_kernel.specs.Histories.{child_of}
+use Rattle.smack_kernel.specs.Tasks.{TaskValue, Stays, Calls, Starts}
+use Rattle.smack_kernel.specs.declared.turns.Entered.{Entered}
+use Rattle.task_runs.specs.Scripts.{Scripted}
+use Rattle.script_run.specs.declared.stage.Stage.{Stage}
+use Rattle.script_run.specs.declared.making.Stop.{Stop}
+
+-- the script of a run: the labels of its kernel, the names of its tasks, and its calls as workers are told them
+abbrev pub script_of : {S : Type 0} → (S → List ScriptLine) → Stage S → Scripted
+script_of told stage = record { labels = stage.kernel.now.labels; names = stage.names.now; lines = told stage.script.now }
+
+-- what came of a fork: an entry and the child that it made; or no child, with an entry or with none
+abbrev pub IsForked : TaskValue → TaskValue → Pid → Result TaskValue Stop → Type 0
+IsForked v w pid (Ok c) = (r : Entered) × Calls v w (Task (Fork pid)) r × (r.reply ≡ Child c.number) × Starts w c c.number
+IsForked v w pid (Err stop) = Stays v w ⊎ ((r : Entered) × Calls v w (Task (Fork pid)) r × (child_of r.reply ≡ None))

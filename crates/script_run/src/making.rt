@@ -1,0 +1,208 @@
+ghost use Rattle.std.specs.Prelude.{◌≡◌, ◌≤◌, ◌<◌, ◌+◌, [], ◌∷◌, ◌++◌, ℕ, List, length, Some, is_some};
+ghost use Rattle.std.specs.Bool.{OnFalse};
+ghost use Rattle.script_spec.specs.Lines.{ScriptLine, word_in, verb_in};
+ghost use Rattle.script_spec.specs.declared.Verb.TheVariants as verbs;
+ghost use Rattle.script_text.specs.Lines.{call_seen};
+ghost use Rattle.smack_kernel.specs.Tasks.{most_calls};
+ghost use Rattle.task_runs.specs.Runs.{Ran};
+ghost use Rattle.script_run.specs.Acts.{IsAct};
+ghost use Rattle.script_run.specs.Stages.{script_of};
+ghost use Rattle.script_run.specs.declared.acts.Act.TheVariants as acts;
+
+use crate::acts::Act;
+use crate::stage::{ScriptLines, Stage};
+use crate::words::words_of;
+use asked_lines::{AskedLine, AskedLines, AskedWhat};
+use script_text::Line;
+use smack_base::{Bytes, LabelId, Modes};
+use smack_kernel::{Asked, Called, Steps, Task, Written};
+use smack_world::Call;
+use smackfs::Refusal;
+use std::alloc::Global;
+use std::marker::Brand;
+use std::sync::Wait;
+use std::sync::ledger::{Blank, Ledger};
+
+/// Why a worker stopped before its last line.
+#[derive(Clone, Copy, Debug, PartialEq, Eq)]
+pub enum Stop {
+    /// Want of memory.
+    Memory,
+    /// The history has 131,072 entries.
+    TrailFull,
+    /// A fork made no task.
+    NoChild,
+    /// A line that stands in no script: its words are not of their kinds, it waits for none of its
+    /// task's children, or its task has made 1,048,575 calls.
+    Unscripted,
+}
+
+/// One more line that is neither a batch nor an object call.
+pub fn note(asked: &mut AskedLines, line: AskedLine) -> Option<Stop>
+    ensures { OnFalse (is_some result) (asked.new ≡ asked.old ++ line ∷ []) }
+{
+    match asked.push(line) {
+        Ok(()) => None,
+        Err(_) => Some(Stop::Memory),
+    }
+}
+
+/// Asks a question.
+fn ask_line<S: ScriptLines, L: Ledger>(
+    alloc: Global,
+    stage: Stage<'_, S>,
+    task: &mut Task,
+    asked: &mut AskedLines,
+    line: &Line<'_>,
+    question: (LabelId, LabelId, Modes),
+    steps: &mut Steps<L>,
+) -> Option<Stop>
+    requires table { task.old.table ≡ stage.kernel.now.table }
+    requires top { task.old.version ≤ length task.old.journal }
+    requires act { IsAct stage.kernel.now.labels stage.names.now (call_seen line.now) (acts.Ask question.0 question.1 question.2) }
+    ensures { (ls : List ScriptLine) → Ran (is_some result) (script_of S.told stage.entry) (call_seen line.now ∷ ls) ls task.old task.new asked.old asked.new }
+{
+    let (s, o, m) = question;
+    let number = task.number();
+    let seq = task.made() + 1;
+    match stage.kernel.ask(alloc, task, s, o, m, steps) {
+        Ok(Asked::Verdict { version, verdict }) => note(
+            asked,
+            AskedLine {
+                task: number,
+                seq,
+                version,
+                what: AskedWhat::Ask(verdict),
+            },
+        ),
+        Ok(Asked::SeqFull) => Some(Stop::Unscripted),
+        Err(_) => Some(Stop::Memory),
+    }
+}
+
+/// Keeps the line of a refused write.
+fn refuse(
+    alloc: Global,
+    asked: &mut AskedLines,
+    line: &Line<'_>,
+    call: (u16, u32, u32),
+    fault: Refusal,
+) -> Option<Stop>
+    ensures { OnFalse (is_some result) (asked.new ≡ asked.old ++ record { task = call.0; seq = call.1; version = call.2; what = AskedWhat.Refused (word_in 1 (call_seen line.now)) fault } ∷ []) }
+{
+    let (task, seq, version) = call;
+    let Ok(file) = Bytes::from_slice(alloc, words_of(line).one) else {
+        return Some(Stop::Memory);
+    };
+    note(
+        asked,
+        AskedLine {
+            task,
+            seq,
+            version,
+            what: AskedWhat::Refused { file, fault },
+        },
+    )
+}
+
+/// Writes the text of a line.
+fn write_line<R: Wait, S: ScriptLines, L: Ledger>(
+    rt: &R,
+    alloc: Global,
+    stage: Stage<'_, S>,
+    task: &mut Task,
+    asked: &mut AskedLines,
+    line: &Line<'_>,
+    steps: &mut Steps<L>,
+) -> Option<Stop>
+    requires table { task.old.table ≡ stage.kernel.now.table }
+    requires top { task.old.version ≤ length task.old.journal }
+    requires act { verb_in (call_seen line.now) ≡ Some verbs.Write }
+    ensures { (ls : List ScriptLine) → Ran (is_some result) (script_of S.told stage.entry) (call_seen line.now ∷ ls) ls task.old task.new asked.old asked.new }
+{
+    let number = task.number();
+    let seq = task.made() + 1;
+    let file = words_of(line).one;
+    match stage
+        .kernel
+        .write(rt, alloc, task, file, line.text.bytes, steps)
+    {
+        Ok(Written::Batch { version: _ }) => None,
+        Ok(Written::Entry(_)) => None,
+        Ok(Written::Refused { version, fault }) => {
+            refuse(alloc, asked, line, (number, seq, version), fault)
+        }
+        Ok(Written::TrailFull) => Some(Stop::TrailFull),
+        Ok(Written::SeqFull) => Some(Stop::Unscripted),
+        Err(_) => Some(Stop::Memory),
+    }
+}
+
+/// Makes an object call that is no fork.
+fn make_line<R: Wait, S: ScriptLines, L: Ledger>(
+    rt: &R,
+    alloc: Global,
+    stage: Stage<'_, S>,
+    task: &mut Task,
+    asked: &mut AskedLines,
+    line: &Line<'_>,
+    call: Call,
+    steps: &mut Steps<L>,
+) -> Option<Stop>
+    requires table { task.old.table ≡ stage.kernel.now.table }
+    requires top { task.old.version ≤ length task.old.journal }
+    requires act { IsAct stage.kernel.now.labels stage.names.now (call_seen line.now) (acts.Make call) }
+    ensures { (ls : List ScriptLine) → Ran (is_some result) (script_of S.told stage.entry) (call_seen line.now ∷ ls) ls task.old task.new asked.old asked.new }
+{
+    match stage.kernel.call(rt, alloc, task, call, steps) {
+        Ok(Called::Entry(_)) => None,
+        Ok(Called::TrailFull(_)) => Some(Stop::TrailFull),
+        Ok(Called::SeqFull(_)) => Some(Stop::Unscripted),
+        Err(_) => Some(Stop::Memory),
+    }
+}
+
+/// Runs a line that neither makes a task nor waits for one.
+fn line_by<R: Wait, S: ScriptLines, L: Ledger>(
+    rt: &R,
+    alloc: Global,
+    stage: Stage<'_, S>,
+    task: &mut Task,
+    asked: &mut AskedLines,
+    line: &Line<'_>,
+    act: Act,
+    blank: Blank,
+) -> Option<Stop>
+    requires blank { (blank.name ≡ L.name) × (blank.parts ≡ L.parts) × (0 < L.parts) }
+    requires table { task.old.table ≡ stage.kernel.now.table }
+    requires top { task.old.version ≤ length task.old.journal }
+    requires act { IsAct stage.kernel.now.labels stage.names.now (call_seen line.now) act }
+    ensures { (ls : List ScriptLine) → Ran (is_some result) (script_of S.told stage.entry) (call_seen line.now ∷ ls) ls task.old task.new asked.old asked.new }
+{
+    let mut steps = Steps::<L>::new(blank);
+    match act {
+        Act::Write => write_line(rt, alloc, stage, task, asked, line, &mut steps),
+        Act::Ask { s, o, m } => ask_line(alloc, stage, task, asked, line, (s, o, m), &mut steps),
+        Act::Make(call) => make_line(rt, alloc, stage, task, asked, line, call, &mut steps),
+        Act::Wait(_) => Some(Stop::Unscripted),
+        Act::Fork(_) => Some(Stop::Unscripted),
+    }
+}
+
+/// The same, where nobody counts the rows that are loaded.
+pub fn plain_line<R: Wait, S: ScriptLines>(
+    rt: &R,
+    alloc: Global,
+    stage: Stage<'_, S>,
+    task: &mut Task,
+    asked: &mut AskedLines,
+    line: &Line<'_>,
+    act: Act,
+) -> Option<Stop>
+    requires table { task.old.table ≡ stage.kernel.now.table }
+    requires top { task.old.version ≤ length task.old.journal }
+    requires act { IsAct stage.kernel.now.labels stage.names.now (call_seen line.now) act }
+    ensures { (ls : List ScriptLine) → Ran (is_some result) (script_of S.told stage.entry) (call_seen line.now ∷ ls) ls task.old task.new asked.old asked.new }
+{
+    line_by::<R, S, Brand>(rt, alloc, stage, task, asked, line, act, Blank::new(1))
+}

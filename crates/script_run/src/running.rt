@@ -1,0 +1,106 @@
+ghost use Rattle.std.specs.Prelude.{◌≡◌, ℕ, List, [], Ok, fold, IfOk};
+ghost use Rattle.script_spec.specs.Grammar.{parse};
+ghost use Rattle.script_spec.specs.Lines.{table_of};
+ghost use Rattle.replay_spec.specs.Replays.{with_asked};
+ghost use Rattle.replay_spec.specs.Plain.{IsPlain};
+ghost use Rattle.legal_spec.specs.Fits.{IsLegalFor};
+ghost use Rattle.legal_runs.specs.Laws.{run_record};
+ghost use Rattle.script_run.specs.Closings.{HasRun, IsScript};
+
+use crate::replaying::names_of;
+use crate::workers::{Worked, work};
+use asked_lines::AskedByTask;
+use outside::Gate;
+use record_spec::{AskedLines, RunRecord};
+use script_text::Script;
+use smack_base::{Duplicate, Pid};
+use smack_kernel::{Closed, Kernel};
+use std::alloc::{AllocError, Global};
+use std::sync::Wait;
+use std::thread::Threads;
+
+/// The most tasks of a kernel.
+const MOST_TASKS: u16 = 64;
+
+/// A script that was run: its record, and what the closed kernel of its tasks handed out.
+#[derive(Drop)]
+pub struct Ran {
+    pub report: RunRecord,
+    pub closed: Closed,
+}
+
+/// The lines by rising task, those of one task in the order in which they came.
+fn by_task(alloc: Global, asked: AskedLines) -> Result<AskedLines, AllocError>
+    ensures { IfOk result (λ lines. lines ≡ fold with_asked [] asked) }
+{
+    let mut lines = AskedByTask::new(alloc)?;
+    for line in asked.into_vec() {
+        if line.task > MOST_TASKS {
+            return Err(AllocError);
+        }
+        lines.put(line)?;
+    }
+    lines.into_lines(alloc)
+}
+
+/// Runs the tasks of a script at a kernel of their own, and closes it: what it hands out, and the
+/// asked, refused and waited lines. A worker that stops is want of memory.
+fn close_run<R: Threads + Wait + Sync, G: Gate + Sync>(
+    rt: &R,
+    alloc: Global,
+    script: &Script<'_>,
+    gate: &G,
+) -> Result<(Closed, AskedLines), AllocError>
+    requires read { IsScript script.now }
+    ensures { IfOk result (λ r. HasRun script.now r.0 r.1) }
+{
+    let (kernel, task) = Kernel::boot(alloc, script.labels()?)?;
+    let Worked { task, asked, stop } = work(rt, alloc, &kernel, task, Pid(0), script, gate);
+    let closed = kernel.close(alloc, task);
+    if stop.is_some() {
+        return Err(AllocError);
+    }
+    match closed {
+        Ok(closed) => Ok((closed, asked)),
+        Err(_) => Err(AllocError),
+    }
+}
+
+/// The record of tasks that have run.
+fn report_of(
+    alloc: Global,
+    script: &Script<'_>,
+    closed: &Closed,
+    asked: AskedLines,
+) -> Result<RunRecord, AllocError>
+    ensures { IfOk result (λ r. r ≡ record (run_record script.now closed.now asked) { labels = closed.now.labels }) }
+{
+    Ok(RunRecord {
+        labels: closed.labels().copy()?,
+        names: names_of(alloc, script.tasks())?,
+        journal: closed.journal().copy()?,
+        history: closed.history().copy()?,
+        asked: by_task(alloc, asked)?,
+    })
+}
+
+/// Runs a script, each task on a thread of its own, and gives its record with what the closed kernel
+/// handed out. However the threads interleave, the record is legal for the script: it is one history
+/// of one world under one journal of rules. It is plain too: its text tells all of it. Its journal
+/// and its history are those of the kernel.
+#[tactic(auto, using(crate::proofs::Closing::is_legal_for, crate::proofs::Closing::is_plain))]
+pub fn run<R: Threads + Wait + Sync, G: Gate + Sync>(
+    rt: &R,
+    alloc: Global,
+    script: &Script<'_>,
+    gate: &G,
+) -> Result<Ran, AllocError>
+    requires read { IsScript script.now }
+    ensures legal { IfOk result (λ r. IsLegalFor script.now r.report) }
+    ensures plain { IfOk result (λ r. IsPlain r.report) }
+    ensures closed { IfOk result (λ r. (r.report.journal ≡ r.closed.journal) × (r.report.history ≡ r.closed.history)) }
+{
+    let (closed, asked) = close_run(rt, alloc, script, gate)?;
+    let report = report_of(alloc, script, &closed, asked)?;
+    Ok(Ran { report, closed })
+}

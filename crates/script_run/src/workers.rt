@@ -1,0 +1,453 @@
+ghost use Rattle.std.specs.Prelude.{◌≡◌, ◌≤◌, ◌<◌, ◌+◌, [], ◌∷◌, ℕ, List, length, take, false, is_some};
+ghost use Rattle.script_spec.specs.Grammar.{most_tasks};
+ghost use Rattle.script_spec.specs.Lines.{ScriptLine, table_of};
+ghost use Rattle.script_text.specs.Lines.{call_seen};
+ghost use Rattle.legal_spec.specs.Calls.{Stands};
+ghost use Rattle.task_runs.specs.Scripts.{scripted, ForksTask, ForksFirst, segment, lines_by};
+ghost use Rattle.task_runs.specs.Runs.{Ran};
+ghost use Rattle.task_runs.specs.Meetings.{Met};
+ghost use Rattle.script_run.specs.Acts.{IsAct};
+ghost use Rattle.script_run.specs.Shared.{script_in};
+ghost use Rattle.script_run.specs.Stages.{script_of, IsForked};
+
+use crate::acts::{Act, act_of};
+use crate::making::{Stop, note, plain_line};
+use crate::places::{count, next_line, wait_place};
+use crate::replaying::names_of;
+use crate::stage::{ScriptLines, Stage};
+use asked_lines::{AskedLine, AskedLines, AskedWhat, append};
+use outside::Gate;
+use script_text::{Line, Script};
+use smack_base::{Bytes, Pid};
+use smack_kernel::{Called, Kernel, Steps, Task};
+use std::alloc::Global;
+use std::marker::Brand;
+use std::sync::Wait;
+use std::sync::ledger::{Blank, Ledger};
+use std::thread::{Threads, join};
+
+/// What a worker hands back: its task, the asked, refused and waited lines of this task and of those
+/// that it adopted, and why it stopped before its last line, if it did.
+#[derive(Drop)]
+pub struct Worked {
+    pub task: Task,
+    pub asked: AskedLines,
+    pub stop: Option<Stop>,
+}
+
+/// A worker behind a line: what it would hand back, and the place where it goes on.
+#[derive(Drop)]
+pub struct Reached {
+    pub worked: Worked,
+    pub at: usize,
+}
+
+/// Why a fork has no child.
+fn why_no_child(called: &Called) -> Stop {
+    match called {
+        Called::Entry(_) => Stop::NoChild,
+        Called::TrailFull(_) => Stop::TrailFull,
+        Called::SeqFull(_) => Stop::Unscripted,
+    }
+}
+
+/// The child of a fork; or why there is none.
+fn fork_by<R: Wait, L: Ledger>(
+    rt: &R,
+    alloc: Global,
+    kernel: &Kernel,
+    task: &mut Task,
+    child: Pid,
+    blank: Blank,
+) -> Result<Task, Stop>
+    requires blank { (blank.name ≡ L.name) × (blank.parts ≡ L.parts) × (0 < L.parts) }
+    requires table { task.old.table ≡ kernel.now.table }
+    requires top { task.old.version ≤ length task.old.journal }
+    ensures { IsForked task.old task.new child result }
+{
+    let mut steps = Steps::<L>::new(blank);
+    let Ok((called, kid)) = kernel.fork(rt, alloc, task, child, &mut steps) else {
+        return Err(Stop::Memory);
+    };
+    match kid {
+        Some(kid) => Ok(kid),
+        None => Err(why_no_child(&called)),
+    }
+}
+
+/// The same, where nobody counts the rows that are loaded.
+fn fork<R: Wait>(
+    rt: &R,
+    alloc: Global,
+    kernel: &Kernel,
+    task: &mut Task,
+    child: Pid,
+) -> Result<Task, Stop>
+    requires table { task.old.table ≡ kernel.now.table }
+    requires top { task.old.version ≤ length task.old.journal }
+    ensures { IsForked task.old task.new child result }
+{
+    fork_by::<R, Brand>(rt, alloc, kernel, task, child, Blank::new(1))
+}
+
+/// Both halves of a fork have ended: the task adopts the child and, where a line at `until` waits for
+/// it, this line is run.
+fn meet<S: ScriptLines>(
+    stage: Stage<'_, S>,
+    mine: Worked,
+    theirs: Worked,
+    child: Pid,
+    until: usize,
+    to: usize,
+) -> Reached
+    requires tables { (mine.task.table ≡ stage.kernel.now.table) × (theirs.task.table ≡ stage.kernel.now.table) }
+    requires place { until ≤ to }
+    ensures { Met (script_of S.told stage.entry) child.0 (is_some mine.stop) (is_some theirs.stop) (is_some result.worked.stop) mine.task theirs.task result.worked.task mine.asked theirs.asked result.worked.asked until to result.at }
+{
+    let Worked {
+        mut task,
+        mut asked,
+        stop,
+    } = mine;
+    let Worked {
+        task: kid,
+        asked: more,
+        stop: failed,
+    } = theirs;
+    stage.kernel.adopt(&mut task, kid);
+    if stop.is_some() {
+        return Reached {
+            worked: Worked { task, asked, stop },
+            at: until,
+        };
+    }
+    if failed.is_some() {
+        return Reached {
+            worked: Worked {
+                task,
+                asked,
+                stop: failed,
+            },
+            at: until,
+        };
+    }
+    if append(&mut asked, more).is_err() {
+        return Reached {
+            worked: Worked {
+                task,
+                asked,
+                stop: Some(Stop::Memory),
+            },
+            at: until,
+        };
+    }
+    if until == to {
+        return Reached {
+            worked: Worked {
+                task,
+                asked,
+                stop: None,
+            },
+            at: until,
+        };
+    }
+    let number = task.number();
+    let seq = task.made() + 1;
+    let Ok(version) = stage.kernel.mark(&mut task) else {
+        return Reached {
+            worked: Worked {
+                task,
+                asked,
+                stop: Some(Stop::Unscripted),
+            },
+            at: until,
+        };
+    };
+    let line = AskedLine {
+        task: number,
+        seq,
+        version,
+        what: AskedWhat::Wait { pid: child },
+    };
+    let stop = note(&mut asked, line);
+    Reached {
+        worked: Worked { task, asked, stop },
+        at: until + 1,
+    }
+}
+
+/// Runs a line that neither makes a task nor waits for one.
+fn plain_step<R: Wait, S: ScriptLines>(
+    rt: &R,
+    alloc: Global,
+    stage: Stage<'_, S>,
+    mut task: Task,
+    mut asked: AskedLines,
+    line: &Line<'_>,
+    act: Act,
+    at: usize,
+) -> Reached
+    requires table { task.table ≡ stage.kernel.now.table }
+    requires top { task.version ≤ length task.journal }
+    requires act { IsAct stage.kernel.now.labels stage.names.now (call_seen line.now) act }
+    ensures ran { (ls : List ScriptLine) → Ran (is_some result.worked.stop) (script_of S.told stage.entry) (call_seen line.now ∷ ls) ls task result.worked.task asked result.worked.asked }
+    ensures at { result.at ≡ at }
+{
+    let stop = plain_line(rt, alloc, stage, &mut task, &mut asked, line, act);
+    Reached {
+        worked: Worked { task, asked, stop },
+        at,
+    }
+}
+
+/// The rest of a task's own lines up to a place, and all lines of its child, side by side.
+#[cycle(work)]
+fn halves<R: Threads + Wait + Sync, G: Gate + Sync, S: ScriptLines + Sync>(
+    rt: &R,
+    alloc: Global,
+    gate: &G,
+    stage: Stage<'_, S>,
+    task: Task,
+    asked: AskedLines,
+    kid: Task,
+    pid: u16,
+    child: u16,
+    at: usize,
+    until: usize,
+) -> (Worked, Worked)
+    requires tables { (task.table ≡ stage.kernel.now.table) × (kid.table ≡ stage.kernel.now.table) }
+    requires top { (task.version ≤ length task.journal) × (kid.version ≤ length kid.journal) }
+    requires place { (at ≤ until) × (until ≤ length (S.told stage.script.now)) }
+    requires names { length stage.names.now ≤ most_tasks }
+    requires forks { ForksFirst (script_of S.told stage) }
+    ensures mine { Ran (is_some result.0.stop) (script_of S.told stage.entry) (segment pid at until (S.told stage.entry.script.now)) [] task result.0.task asked result.0.asked }
+    ensures theirs { Ran (is_some result.1.stop) (script_of S.told stage.entry) (segment child at (length (S.told stage.entry.script.now)) (S.told stage.entry.script.now)) [] kid result.1.task [] result.1.asked }
+{
+    let Stage {
+        kernel,
+        names,
+        script,
+    } = stage;
+    join(
+        rt,
+        || -> Worked
+            requires { (task.table ≡ kernel.now.table) × (task.version ≤ length task.journal) × (at ≤ until) × (until ≤ length (S.told script.now)) × (length names.now ≤ most_tasks) × ForksFirst (script_in kernel.now.labels names.now (S.told script.now)) }
+            ensures { Ran (is_some result.stop) (script_in kernel.entry.now.labels names.entry.now (S.told script.entry.now)) (segment pid at until (S.told script.entry.now)) [] task result.task asked result.asked }
+        {
+            go(
+                rt,
+                alloc,
+                gate,
+                Stage {
+                    kernel,
+                    names,
+                    script,
+                },
+                task,
+                asked,
+                pid,
+                at,
+                until,
+            )
+        },
+        || -> Worked
+            requires { (kid.table ≡ kernel.now.table) × (kid.version ≤ length kid.journal) × (at ≤ length (S.told script.now)) × (length names.now ≤ most_tasks) × ForksFirst (script_in kernel.now.labels names.now (S.told script.now)) }
+            ensures { Ran (is_some result.stop) (script_in kernel.entry.now.labels names.entry.now (S.told script.entry.now)) (segment child at (length (S.told script.entry.now)) (S.told script.entry.now)) [] kid result.task [] result.asked }
+        {
+            go(
+                rt,
+                alloc,
+                gate,
+                Stage {
+                    kernel,
+                    names,
+                    script,
+                },
+                kid,
+                AskedLines::new(alloc),
+                child,
+                at,
+                count(script),
+            )
+        },
+    )
+}
+
+/// Runs a line that forks a task: the lines of this child, and the rest of the task's own up to the
+/// wait for it, are run side by side.
+#[cycle(work)]
+fn fork_line<R: Threads + Wait + Sync, G: Gate + Sync, S: ScriptLines + Sync>(
+    rt: &R,
+    alloc: Global,
+    gate: &G,
+    stage: Stage<'_, S>,
+    mut task: Task,
+    asked: AskedLines,
+    pid: u16,
+    line: &Line<'_>,
+    child: Pid,
+    at: usize,
+    to: usize,
+) -> Reached
+    requires table { task.table ≡ stage.kernel.now.table }
+    requires top { task.version ≤ length task.journal }
+    requires place { (at ≤ to) × (to ≤ length (S.told stage.script.now)) }
+    requires names { length stage.names.now ≤ most_tasks }
+    requires forks { ForksFirst (script_of S.told stage) }
+    requires first { lines_by child.0 (take at (S.told stage.script.now)) ≡ [] }
+    requires line { ForksTask (script_of S.told stage) (call_seen line.now) child.0 }
+    ensures ran { Ran (is_some result.worked.stop) (script_of S.told stage.entry) (call_seen line.now ∷ segment pid at to (S.told stage.entry.script.now)) (segment pid result.at to (S.told stage.entry.script.now)) task result.worked.task asked result.worked.asked }
+    ensures place { is_some result.worked.stop ≡ false → (at ≤ result.at) × (result.at ≤ to) }
+{
+    match fork(rt, alloc, stage.kernel, &mut task, child) {
+        Err(stop) => Reached {
+            worked: Worked {
+                task,
+                asked,
+                stop: Some(stop),
+            },
+            at,
+        },
+        Ok(kid) => {
+            let until = wait_place(stage, pid, child, at, to);
+            let (mine, theirs) = halves(
+                rt, alloc, gate, stage, task, asked, kid, pid, child.0, at, until,
+            );
+            meet(stage, mine, theirs, child, until, to)
+        }
+    }
+}
+
+/// Runs one line.
+#[cycle(work)]
+fn step<R: Threads + Wait + Sync, G: Gate + Sync, S: ScriptLines + Sync>(
+    rt: &R,
+    alloc: Global,
+    gate: &G,
+    stage: Stage<'_, S>,
+    task: Task,
+    asked: AskedLines,
+    pid: u16,
+    line: &Line<'_>,
+    at: usize,
+    to: usize,
+) -> Reached
+    requires table { task.table ≡ stage.kernel.now.table }
+    requires top { task.version ≤ length task.journal }
+    requires place { (at ≤ to) × (to ≤ length (S.told stage.script.now)) }
+    requires names { length stage.names.now ≤ most_tasks }
+    requires forks { ForksFirst (script_of S.told stage) }
+    requires here { (n : ℕ) × Stands (S.told stage.script.now) n (call_seen line.now) × (at ≡ n + 1) }
+    ensures ran { Ran (is_some result.worked.stop) (script_of S.told stage.entry) (call_seen line.now ∷ segment pid at to (S.told stage.entry.script.now)) (segment pid result.at to (S.told stage.entry.script.now)) task result.worked.task asked result.worked.asked }
+    ensures place { is_some result.worked.stop ≡ false → (at ≤ result.at) × (result.at ≤ to) }
+{
+    let stop = match act_of(alloc, stage.kernel.labels(), stage.names, line) {
+        Ok(Some(Act::Fork(child))) => {
+            return fork_line(
+                rt, alloc, gate, stage, task, asked, pid, line, child, at, to,
+            );
+        }
+        Ok(Some(act)) => return plain_step(rt, alloc, stage, task, asked, line, act, at),
+        Ok(None) => Stop::Unscripted,
+        Err(_) => Stop::Memory,
+    };
+    Reached {
+        worked: Worked {
+            task,
+            asked,
+            stop: Some(stop),
+        },
+        at,
+    }
+}
+
+/// Tells the gate of the line at a place, if one stands there.
+fn announce<G: Gate, S: ScriptLines>(gate: &G, stage: Stage<'_, S>, pid: u16, at: usize) {
+    if let Some(line) = stage.script.calls().get(at) {
+        gate.before(u32::from(pid), line.seq);
+    }
+}
+
+/// Runs the lines of a script task between two places, and all lines of the tasks that it forks
+/// there.
+#[cycle(work)]
+fn go<R: Threads + Wait + Sync, G: Gate + Sync, S: ScriptLines + Sync>(
+    rt: &R,
+    alloc: Global,
+    gate: &G,
+    stage: Stage<'_, S>,
+    task: Task,
+    asked: AskedLines,
+    pid: u16,
+    from: usize,
+    to: usize,
+) -> Worked
+    requires table { task.table ≡ stage.kernel.now.table }
+    requires top { task.version ≤ length task.journal }
+    requires place { (from ≤ to) × (to ≤ length (S.told stage.script.now)) }
+    requires names { length stage.names.now ≤ most_tasks }
+    requires forks { ForksFirst (script_of S.told stage) }
+    ensures { Ran (is_some result.stop) (script_of S.told stage.entry) (segment pid from to (S.told stage.entry.script.now)) [] task result.task asked result.asked }
+{
+    let mut task = task;
+    let mut asked = asked;
+    let mut at = from;
+    while let Some((line, after)) = next_line(stage.script, pid, at, to) {
+        gate.before(u32::from(pid), line.seq);
+        let Reached { worked, at: place } = step(
+            rt, alloc, gate, stage, task, asked, pid, &line, after, to,
+        );
+        if worked.stop.is_some() {
+            return worked;
+        }
+        let Worked {
+            task: later,
+            asked: more,
+            stop: _,
+        } = worked;
+        task = later;
+        asked = more;
+        at = place;
+    }
+    announce(gate, stage, pid, to);
+    Worked {
+        task,
+        asked,
+        stop: None,
+    }
+}
+
+/// Runs the lines of a script task at a kernel, and those of the tasks that it forks, each task on a
+/// thread of its own. The task is the kernel's, and the kernel has the labels of the script. A worker
+/// that stops hands its task back as well, with all that it and its children did. Each line of a
+/// task is shown to the gate before it is run.
+pub fn work<R: Threads + Wait + Sync, G: Gate + Sync>(
+    rt: &R,
+    alloc: Global,
+    kernel: &Kernel,
+    task: Task,
+    pid: Pid,
+    script: &Script<'_>,
+    gate: &G,
+) -> Worked
+    requires table { task.table ≡ kernel.now.table }
+    requires labels { kernel.now.labels ≡ table_of script.now }
+    requires top { task.version ≤ length task.journal }
+    requires forks { ForksFirst (scripted script.now) }
+    ensures { Ran (is_some result.stop) (scripted script.now) (lines_by pid.0 script.now) [] task result.task [] result.asked }
+{
+    let asked = AskedLines::new(alloc);
+    let Ok(names) = names_of(alloc, script.tasks()) else {
+        return Worked {
+            task,
+            asked,
+            stop: Some(Stop::Memory),
+        };
+    };
+    let stage = Stage {
+        kernel,
+        names: names.items(),
+        script,
+    };
+    go(rt, alloc, gate, stage, task, asked, pid.0, 0, count(script))
+}
