@@ -163,9 +163,15 @@ class TestFiles(FrontDoorTest):
         script = self.file("a policy.smack", "init ask A A r\n")
         self.assertIn("= allow 5", self.smack("replay", script).out)
 
-    def test_the_program_answers_run_itself(self) -> None:
+    def test_an_empty_script_is_run(self) -> None:
         said = self.smack("run", given=b"")
-        self.assertIn(said.status, (0, 2))
-        if said.status == 2:
-            self.assertEqual((said.out, said.err), ("", "smack: usage\n"))
-            self.assertIn("no command run", self.smack("run", EXAMPLES / "first.smack").err)
+        self.assertEqual((said.status, said.out, said.err), (0, "smack 1\ntask 0 init\nend 0 0 0\n", ""))
+
+    def test_a_script_without_a_fork_runs_as_it_is_replayed(self) -> None:
+        said = self.smack("run", EXAMPLES / "first.smack")
+        self.assertEqual((said.status, said.out), (0, (EXAMPLES / "first.record").read_text()))
+
+    def test_what_is_wrong_with_a_script_that_is_run(self) -> None:
+        said = self.smack("run", self.file("bad.smack", "init frob\n"))
+        self.assertEqual((said.status, said.out), (3, ""))
+        self.assertIn("smack: line 1: verb", said.err)

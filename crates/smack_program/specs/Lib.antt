@@ -4,4 +4,5 @@ pub mod Ends
 pub mod Parts
 pub mod Scripts
 pub mod Replay
+pub mod Run
 pub mod Program

@@ -1,13 +1,16 @@
-ghost use Rattle.std.specs.Prelude.{◌≡◌, ◌⊎◌, List, Ok, Err};
+ghost use Rattle.std.specs.Prelude.{◌≡◌, ◌⊎◌, List, None, Ok, Err};
 ghost use Rattle.script_spec.specs.declared.ScriptFault.{ScriptFault as ScriptFaultOf};
 ghost use Rattle.script_spec.specs.Grammar.{parse};
 ghost use Rattle.script_spec.specs.Lines.{ScriptLine};
 ghost use Rattle.smack_program.specs.Statuses.{status_of};
 
 use crate::status::Status;
-use crate::top::replay_main;
-use outside::{CalmSink, CalmSource};
+use crate::top::{replay_main, run_main};
+use outside::{CalmSink, CalmSource, Gate};
+use smack_kernel::Closed;
 use std::alloc::Global;
+use std::sync::Wait;
+use std::thread::Threads;
 
 /// A replay from a source and to a sink that never fail. A script is done, and other bytes are
 /// refused for their fault; want of memory alone is excepted.
@@ -16,4 +19,20 @@ pub fn replay_calm(alloc: Global, source: &mut CalmSource, sink: &mut CalmSink) 
     ensures other { (fault : ScriptFaultOf) → parse source.old ≡ Err fault → (result ≡ status_of fault) ⊎ (result ≡ Status.OutOfMemory) }
 {
     replay_main(alloc, source, sink)
+}
+
+/// A run from a source and to a sink that never fail, as a replay is.
+pub fn run_calm<R: Threads + Wait + Sync, G: Gate + Sync>(
+    rt: &R,
+    alloc: Global,
+    source: &mut CalmSource,
+    sink: &mut CalmSink,
+    gate: &G,
+    kept: &mut Option<Closed>,
+) -> Status
+    requires { kept.old ≡ None }
+    ensures script { (lines : List ScriptLine) → parse source.old ≡ Ok lines → (result ≡ Status.Done) ⊎ (result ≡ Status.OutOfMemory) }
+    ensures other { (fault : ScriptFaultOf) → parse source.old ≡ Err fault → (result ≡ status_of fault) ⊎ (result ≡ Status.OutOfMemory) }
+{
+    run_main(rt, alloc, source, sink, gate, kept)
 }

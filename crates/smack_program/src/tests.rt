@@ -1,11 +1,13 @@
-use crate::{Status, replay_calm, replay_main, smack_main, told_main};
-use outside::{CalmSink, CalmSource, MemSink, MemSource, StdSink};
+use crate::{Status, replay_calm, replay_main, told_main};
+use outside::{CalmSink, CalmSource, MemSink, MemSource, OpenGate, StdSink};
 use script_text::{Cause, What};
 use smack_base::Bytes;
 use std::io;
 use std::io::{ErrorKind, Write};
 use std::process::Abort;
+use std::sync::Wait;
 use std::test::Fail;
+use std::thread::Threads;
 
 /// Scripts and their records.
 const RECORDS: [(&str, &str); 14] = [
@@ -72,10 +74,9 @@ fn replays(
     status: Status,
     text: &[u8],
 ) -> Result<bool, Fail> {
-    let words = vec![in rt.alloc(); String::from_str(rt.alloc(), "replay")?]?;
     let mut source = CalmSource::new(Vec::from_slice(rt.alloc(), script)?);
     let mut sink = CalmSink::new(rt.alloc(), 7);
-    let ended = smack_main(rt.alloc(), words.as_slice(), &mut source, &mut sink);
+    let ended = replay_main(rt.alloc(), &mut source, &mut sink);
     Ok(ended == status && sink.taken() == text)
 }
 
@@ -133,8 +134,8 @@ struct Told {
 
 /// How a script ends under these words, where a read and a write of these numbers fail, and the sink
 /// takes 8 bytes at a time.
-fn ended(
-    rt: &(impl Abort + AllocGlobal),
+fn ended<R: Abort + AllocGlobal + Threads + Wait + Sync>(
+    rt: &R,
     words: &[&str],
     script: &[u8],
     fails: (u32, u32),
@@ -148,11 +149,13 @@ fn ended(
     let mut sink = MemSink::new(rt.alloc(), 8, vec![in rt.alloc(); fails.1]?);
     let mut errors = CalmSink::new(rt.alloc(), 5);
     let ending = told_main(
+        rt,
         rt.alloc(),
         owned.as_slice(),
         &mut source,
         &mut sink,
         &mut errors,
+        &OpenGate,
     );
     Ok(Told {
         code: ending.code,
@@ -162,10 +165,11 @@ fn ended(
 }
 
 /// Words, a script, the read and the write that fail; the exit status, and what standard error takes.
-const ENDINGS: [(&[&str], &str, (u32, u32), u8, &str); 11] = [
+const ENDINGS: [(&[&str], &str, (u32, u32), u8, &str); 15] = [
     (&["replay"], "", (0, 0), 0, ""),
     (&[], "", (0, 0), 2, "smack: usage\n"),
-    (&["run"], "", (0, 0), 2, "smack: usage\n"),
+    (&["runs"], "", (0, 0), 2, "smack: usage\n"),
+    (&["run", "x"], "", (0, 0), 2, "smack: usage\n"),
     (&["replay", "x"], "", (0, 0), 2, "smack: usage\n"),
     (&["replay"], "init frob", (0, 0), 3, "smack: line 1: verb\n"),
     (
@@ -186,6 +190,9 @@ const ENDINGS: [(&[&str], &str, (u32, u32), u8, &str); 11] = [
     (&["replay"], "#", (2, 0), 4, "smack: read fault\n"),
     (&["replay"], "", (0, 1), 5, "smack: write fault\n"),
     (&["replay"], "", (0, 3), 5, "smack: write fault\n"),
+    (&["run"], "init frob", (0, 0), 3, "smack: line 1: verb\n"),
+    (&["run"], "", (1, 0), 4, "smack: read fault\n"),
+    (&["run"], "", (0, 1), 5, "smack: write fault\n"),
 ];
 
 #[test]
