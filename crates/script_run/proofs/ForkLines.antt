@@ -1,15 +1,15 @@
 -- No line of a task stands before the line that forks it.
-use Rattle.std.proofs.Common.{◌≡◌, ◌≢◌, ℕ, zero, suc, ◌+◌, ◌<◌, ◌≤◌, ◌⊎◌, inl, inr, ⊎_elim, List, [], ◌∷◌, ◌++◌, length, refl, sym, ap, subst, ◌∙◌, arith, append_assoc, append-nil, Some, None, Ok, length-append}
+use Rattle.std.proofs.Common.{◌≡◌, ℕ, zero, suc, ◌+◌, ◌<◌, ⊎_elim, List, [], ◌∷◌, ◌++◌, length, refl, sym, ap, subst, ◌∙◌, arith, append_assoc, Some, None, Ok}
 use Rattle.std.specs.Prelude.{take, codes, Option}
 use Rattle.std.specs.List.{flat_map}
 use Rattle.std.proofs.lemmas.Grind.{flat_map-append}
 use Rattle.smack_base.specs.declared.ids.Pid.{Pid}
 use Rattle.world_spec.specs.declared.TaskCall.TheVariants.{Fork}
 use Rattle.world_spec.specs.declared.Call.TheVariants.{Task}
-use Rattle.script_spec.specs.Lines.{ScriptLine, word_in, verb_in, table_of}
+use Rattle.script_spec.specs.Lines.{ScriptLine, word_in, table_of}
 use Rattle.script_spec.specs.Tasks.{task_names, forked_name, change_by, change_of}
 use Rattle.script_spec.specs.Grammar.{parse}
-use Rattle.replay_spec.specs.Calls.{pid_in, call_of_line}
+use Rattle.replay_spec.specs.Calls.{call_of_line}
 use Rattle.replay_spec.specs.Plain.{IsNameTable}
 use Rattle.plain_records.proofs.GoodLines.{IsGoodLine, AreGoodLines, good_lines}
 use Rattle.plain_records.proofs.Tasks.{names_are_a_table}

@@ -1,11 +1,3 @@
-pub mod Answering
-pub mod LongPaths
-pub mod PackedWords
-pub mod Pids
-pub mod PlainRecords
-pub mod LegalRecords
-pub mod LineActs
-pub mod LinePlaces
 pub mod Working
 pub mod ForkLines
 pub mod Closing

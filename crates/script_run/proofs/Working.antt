@@ -1,5 +1,5 @@
 -- What the workers' lines come to.
-use Rattle.std.proofs.Common.{◌≡◌, ◌⊎◌, ℕ, ◌+◌, ◌<◌, ◌≤◌, List, [], ◌∷◌, ◌++◌, length, map, take, Bool, true, false, Option, Some, None, Result, Ok, Err, OnOk, is_err, sym, refl, ap, ◌∙◌, subst, arith, ⊎_elim, inl, inr}
+use Rattle.std.proofs.Common.{◌≡◌, ◌⊎◌, ℕ, ◌+◌, ◌<◌, ◌≤◌, List, [], ◌∷◌, ◌++◌, length, take, Bool, true, false, Option, Some, None, Ok, Err, sym, refl, ap, ◌∙◌, subst, arith, ⊎_elim, inl, inr}
 use Rattle.std.specs.Bool.{OnFalse}
 use Rattle.smack_base.specs.declared.ids.Pid.{Pid}
 use Rattle.smack_base.specs.declared.ids.LabelId.{LabelId}
@@ -35,10 +35,10 @@ use Rattle.task_runs.specs.Meetings.{MeetAt, Met}
 use Rattle.task_runs.proofs.Runs.{stopped, ran_then}
 use Rattle.task_runs.proofs.Calls.{line_of, went_entry, ran_entry, ran_batch, ran_stopped, ran_unchanged, stays_self}
 use Rattle.task_runs.proofs.Lines.{ran_asked, ran_refused, ran_written}
-use Rattle.task_runs.proofs.Meetings.{LinesOn, fork_ran, met_stop, met_wait}
+use Rattle.task_runs.proofs.Meetings.{LinesOn, fork_ran, met_stop, met_end, met_wait}
 use Rattle.task_runs.proofs.Segments.{cut, empty, from_here}
-use Rattle.script_run.specs.Places.{IsWaitAt}
-use Rattle.script_run.specs.Stages.{IsForked}
+use Rattle.script_acts.specs.Places.{IsWaitAt}
+use Rattle.script_run.specs.Stages.{IsForked, IsAwaited}
 use Rattle.script_run.specs.declared.making.Stop.{Stop}
 
 -- a fork that made no child
@@ -144,25 +144,27 @@ module _ (s : Scripted) (l : ScriptLine) (ls : List ScriptLine) (v w : TaskValue
   asked_seq subject object m f top e h =
       let h' : IsSeqFull v w = subst (IsAsked v w subject object m) e h in ran_unchanged s (l ∷ ls) ls v w x y top h'.1
 
-pub on_ok : {T E P : Type 0} (r : Result T E) → is_err r ≡ false → OnOk r P → P
-on_ok (Ok t) e p = p
-on_ok (Err t) e p = absurd (let e' : true ≡ false = e in cc)
-
 pub on_false : {P : Type 0} (b : Bool) → OnFalse b P → b ≡ false → P
 on_false true p e = absurd (let e' : true ≡ false = e in cc)
 on_false false p e = p
 
 module _ (s : Scripted) (pid : ℕ) (u c w : TaskValue) (asked told after : List AskedLine) (until to : ℕ) (a b : Bool) where
-  pub meet_stop : (stop : Bool) (at : ℕ) → stop ≡ true → Adopts u c w → Met s pid a b stop u c w asked told after until to at
-  meet_stop stop at e d = subst (λ (z : Bool). Met s pid a b z u c w asked told after until to at) (sym e)
-      (met_stop s pid u c asked told after until to a b w at d)
+  -- a half stopped, or no line waits for the child
+  pub meet_early : (stop : Bool) → Adopts u c w → OnFalse stop ((a ≡ false) × (b ≡ false) × (after ≡ asked ++ told))
+      → (stop ≡ false → until ≡ to) → Met s pid a b stop u c w asked told after until to until
+  meet_early true d on end = met_stop s pid u c asked told after until to a b w until d
+  meet_early false d on end = met_end s pid u c asked told after until to a b w d on.0 on.1 on.2 (end refl)
 
-  pub meet_wait : (x : TaskValue) (stop : Bool) (n m version : ℕ) (lines : List AskedLine) → Adopts u c x → (w ≡ record x { made = x.made + 1 })
-      → version ≡ x.version → n ≡ x.number → m ≡ x.made → a ≡ false → b ≡ false → lines ≡ asked ++ told
-      → OnFalse stop (after ≡ lines ++ record { task = n; seq = m + 1; version = version; what = Wait (record { 0 = pid }) } ∷ [])
-      → until < to → Met s pid a b stop u c w asked told after until to (until + 1)
-  meet_wait x stop n m version lines d is ev en em ea eb el more lt = met_wait s pid u c asked told after until to a b stop x w d is ea eb
-      (λ e. on_false stop more e ∙ (λ i. el i ++ record { task = en i; seq = em i + 1; version = ev i; what = Wait (record { 0 = pid }) } ∷ [])) lt
+  -- a line waits for it
+  pub meet_wait : (x : TaskValue) (stop : Bool) (lines : List AskedLine) → Adopts u c x → (a ≡ false) × (b ≡ false) × (lines ≡ asked ++ told)
+      → until < to → IsAwaited x w (record { 0 = pid }) stop lines after
+      → Met s pid a b stop u c w asked told after until to (until + 1)
+  meet_wait x stop lines d on lt waits = ⊎_elim
+      (λ no. subst (λ (z : Bool). Met s pid a b z u c w asked told after until to (until + 1)) (sym no.0)
+      (met_stop s pid u c asked told after until to a b w (until + 1) (subst (Adopts u c) (sym no.1) d)))
+      (λ one. met_wait s pid u c asked told after until to a b stop x w d one.0 on.0 on.1
+      (λ e. on_false stop one.1 e ∙ ap (λ (ls : List AskedLine). ls ++ record { task = x.number; seq = x.made + 1; version = x.version; what = Wait (record { 0 = pid }) } ∷ []) on.2) lt)
+      waits
 
 -- a worker's loop: one more line
 module _ (s : Scripted) (ls : List ScriptLine) (v u w : TaskValue) (x y z : List AskedLine) (mid mid' rest : List ScriptLine) (stop : Bool)

@@ -5,14 +5,14 @@ ghost use Rattle.script_spec.specs.declared.Verb.TheVariants as verbs;
 ghost use Rattle.script_text.specs.Lines.{call_seen};
 ghost use Rattle.smack_kernel.specs.Tasks.{most_calls};
 ghost use Rattle.task_runs.specs.Runs.{Ran};
-ghost use Rattle.script_run.specs.Acts.{IsAct};
+ghost use Rattle.script_acts.specs.Acts.{IsAct};
 ghost use Rattle.script_run.specs.Stages.{script_of};
-ghost use Rattle.script_run.specs.declared.acts.Act.TheVariants as acts;
+ghost use Rattle.script_acts.specs.declared.acts.Act.TheVariants as acts;
 
-use crate::acts::Act;
 use crate::stage::{ScriptLines, Stage};
-use crate::words::words_of;
 use asked_lines::{AskedLine, AskedLines, AskedWhat};
+use script_acts::Act;
+use script_calls::words_of;
 use script_text::Line;
 use smack_base::{Bytes, LabelId, Modes};
 use smack_kernel::{Asked, Called, Steps, Task, Written};

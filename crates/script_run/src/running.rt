@@ -7,11 +7,11 @@ ghost use Rattle.legal_spec.specs.Fits.{IsLegalFor};
 ghost use Rattle.legal_runs.specs.Laws.{run_record};
 ghost use Rattle.script_run.specs.Closings.{HasRun, IsScript};
 
-use crate::replaying::names_of;
 use crate::workers::{Worked, work};
 use asked_lines::AskedByTask;
 use outside::Gate;
 use record_spec::{AskedLines, RunRecord};
+use script_calls::names_of;
 use script_text::Script;
 use smack_base::{Duplicate, Pid};
 use smack_kernel::{Closed, Kernel};

@@ -1,9 +1,14 @@
-ghost use Rattle.std.specs.Prelude.{◌≡◌, List, map};
+ghost use Rattle.std.specs.Prelude.{◌≡◌, ◌≤◌, ◌<◌, ◌+◌, [], ◌∷◌, ℕ, List, length, map, MatchOption, IfSome};
+ghost use Rattle.script_spec.specs.Grammar.{most_tasks};
 ghost use Rattle.script_spec.specs.Lines.{ScriptLine};
 ghost use Rattle.script_text.specs.Lines.{call_seen};
+ghost use Rattle.legal_spec.specs.Calls.{Stands};
+ghost use Rattle.task_runs.specs.Scripts.{segment};
+ghost use Rattle.script_acts.specs.Places.{IsWaitAt};
 
+use script_acts::{line_between, wait_between};
 use script_text::{Line, Script};
-use smack_base::Bytes;
+use smack_base::{Bytes, Pid};
 use smack_kernel::Kernel;
 use std::alloc::AllocError;
 
@@ -41,3 +46,43 @@ impl<'a, S> Clone for Stage<'a, S> {
 }
 
 impl<'a, S> Copy for Stage<'a, S> {}
+
+/// How many calls a script has.
+pub fn count<S: ScriptLines>(script: &S) -> usize
+    ensures { result ≡ length (S.told script.now) }
+{
+    script.calls().len()
+}
+
+/// The next line of a script task between two places of the script, and the place behind it.
+pub fn next_line<S: ScriptLines>(
+    script: &S,
+    pid: u16,
+    from: usize,
+    to: usize,
+) -> Option<(Line<'_>, usize)>
+    requires { (from ≤ to) × (to ≤ length (S.told script.now)) }
+    ensures line { MatchOption result (segment pid from to (S.told script.now) ≡ [])
+        (λ r. segment pid from to (S.told script.now) ≡ call_seen r.0 ∷ segment pid r.1 to (S.told script.now)) }
+    ensures at { IfSome result (λ r. (n : ℕ) × Stands (S.told script.now) n (call_seen r.0) × (r.1 ≡ n + 1)) }
+    ensures place { IfSome result (λ r. (from < r.1) × (r.1 ≤ to)) }
+{
+    line_between(script.calls(), pid, from, to)
+}
+
+/// The place of the line between two places of the script by which a script task waits for a child;
+/// the second place where none does.
+pub fn wait_place<S: ScriptLines>(
+    stage: Stage<'_, S>,
+    pid: u16,
+    child: Pid,
+    from: usize,
+    to: usize,
+) -> usize
+    requires names { length stage.names.now ≤ most_tasks }
+    requires place { (from ≤ to) × (to ≤ length (S.told stage.script.now)) }
+    ensures place { (from ≤ result) × (result ≤ to) }
+    ensures line { result < to → IsWaitAt stage.entry.names.now (S.told stage.entry.script.now) pid child result to }
+{
+    wait_between(stage.names, stage.script.calls(), pid, child, from, to)
+}

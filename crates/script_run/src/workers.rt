@@ -1,4 +1,5 @@
-ghost use Rattle.std.specs.Prelude.{◌≡◌, ◌≤◌, ◌<◌, ◌+◌, [], ◌∷◌, ℕ, List, length, take, false, is_some};
+ghost use Rattle.std.specs.Prelude.{◌≡◌, ◌≤◌, ◌<◌, ◌+◌, [], ◌∷◌, ◌++◌, ℕ, List, length, take, false, is_some};
+ghost use Rattle.std.specs.Bool.{OnFalse};
 ghost use Rattle.script_spec.specs.Grammar.{most_tasks};
 ghost use Rattle.script_spec.specs.Lines.{ScriptLine, table_of};
 ghost use Rattle.script_text.specs.Lines.{call_seen};
@@ -6,17 +7,16 @@ ghost use Rattle.legal_spec.specs.Calls.{Stands};
 ghost use Rattle.task_runs.specs.Scripts.{scripted, ForksTask, ForksFirst, segment, lines_by};
 ghost use Rattle.task_runs.specs.Runs.{Ran};
 ghost use Rattle.task_runs.specs.Meetings.{Met};
-ghost use Rattle.script_run.specs.Acts.{IsAct};
+ghost use Rattle.script_acts.specs.Acts.{IsAct};
 ghost use Rattle.script_run.specs.Shared.{script_in};
-ghost use Rattle.script_run.specs.Stages.{script_of, IsForked};
+ghost use Rattle.script_run.specs.Stages.{script_of, IsForked, IsAwaited};
 
-use crate::acts::{Act, act_of};
 use crate::making::{Stop, note, plain_line};
-use crate::places::{count, next_line, wait_place};
-use crate::replaying::names_of;
-use crate::stage::{ScriptLines, Stage};
+use crate::stage::{ScriptLines, Stage, count, next_line, wait_place};
 use asked_lines::{AskedLine, AskedLines, AskedWhat, append};
 use outside::Gate;
+use script_acts::{Act, act_of};
+use script_calls::names_of;
 use script_text::{Line, Script};
 use smack_base::{Bytes, Pid};
 use smack_kernel::{Called, Kernel, Steps, Task};
@@ -90,6 +90,47 @@ fn fork<R: Wait>(
     fork_by::<R, Brand>(rt, alloc, kernel, task, child, Blank::new(1))
 }
 
+/// The asked lines of both halves of a fork, put together; or what stopped a half, or that memory for
+/// them is short.
+fn gather(
+    asked: &mut AskedLines,
+    more: AskedLines,
+    stop: Option<Stop>,
+    failed: Option<Stop>,
+) -> Option<Stop>
+    ensures { OnFalse (is_some result) ((is_some stop ≡ false) × (is_some failed ≡ false) × (asked.new ≡ asked.old ++ more)) }
+{
+    if stop.is_some() {
+        return stop;
+    }
+    if failed.is_some() {
+        return failed;
+    }
+    match append(asked, more) {
+        Ok(()) => None,
+        Err(_) => Some(Stop::Memory),
+    }
+}
+
+/// Runs the line by which a task waits for a child that it has adopted.
+fn wait_line(kernel: &Kernel, task: &mut Task, asked: &mut AskedLines, child: Pid) -> Option<Stop>
+    requires table { task.old.table ≡ kernel.now.table }
+    ensures { IsAwaited task.old task.new child (is_some result) asked.old asked.new }
+{
+    let number = task.number();
+    let seq = task.made() + 1;
+    let Ok(version) = kernel.mark(task) else {
+        return Some(Stop::Unscripted);
+    };
+    let line = AskedLine {
+        task: number,
+        seq,
+        version,
+        what: AskedWhat::Wait { pid: child },
+    };
+    note(asked, line)
+}
+
 /// Both halves of a fork have ended: the task adopts the child and, where a line at `until` waits for
 /// it, this line is run.
 fn meet<S: ScriptLines>(
@@ -115,61 +156,14 @@ fn meet<S: ScriptLines>(
         stop: failed,
     } = theirs;
     stage.kernel.adopt(&mut task, kid);
-    if stop.is_some() {
+    let stop = gather(&mut asked, more, stop, failed);
+    if stop.is_some() || until == to {
         return Reached {
             worked: Worked { task, asked, stop },
             at: until,
         };
     }
-    if failed.is_some() {
-        return Reached {
-            worked: Worked {
-                task,
-                asked,
-                stop: failed,
-            },
-            at: until,
-        };
-    }
-    if append(&mut asked, more).is_err() {
-        return Reached {
-            worked: Worked {
-                task,
-                asked,
-                stop: Some(Stop::Memory),
-            },
-            at: until,
-        };
-    }
-    if until == to {
-        return Reached {
-            worked: Worked {
-                task,
-                asked,
-                stop: None,
-            },
-            at: until,
-        };
-    }
-    let number = task.number();
-    let seq = task.made() + 1;
-    let Ok(version) = stage.kernel.mark(&mut task) else {
-        return Reached {
-            worked: Worked {
-                task,
-                asked,
-                stop: Some(Stop::Unscripted),
-            },
-            at: until,
-        };
-    };
-    let line = AskedLine {
-        task: number,
-        seq,
-        version,
-        what: AskedWhat::Wait { pid: child },
-    };
-    let stop = note(&mut asked, line);
+    let stop = wait_line(stage.kernel, &mut task, &mut asked, child);
     Reached {
         worked: Worked { task, asked, stop },
         at: until + 1,
@@ -198,6 +192,36 @@ fn plain_step<R: Wait, S: ScriptLines>(
         worked: Worked { task, asked, stop },
         at,
     }
+}
+
+/// The same as `go`, on the parts of a stage: what is joined captures these, and not the stage.
+#[cycle(work)]
+fn go_by_parts<R: Threads + Wait + Sync, G: Gate + Sync, S: ScriptLines + Sync>(
+    rt: &R,
+    alloc: Global,
+    gate: &G,
+    kernel: &Kernel,
+    names: &[Bytes],
+    script: &S,
+    task: Task,
+    asked: AskedLines,
+    pid: u16,
+    from: usize,
+    to: usize,
+) -> Worked
+    requires table { task.table ≡ kernel.now.table }
+    requires top { task.version ≤ length task.journal }
+    requires place { (from ≤ to) × (to ≤ length (S.told script.now)) }
+    requires names { length names.now ≤ most_tasks }
+    requires forks { ForksFirst (script_in kernel.now.labels names.now (S.told script.now)) }
+    ensures { Ran (is_some result.stop) (script_in kernel.now.labels names.now (S.told script.now)) (segment pid from to (S.told script.now)) [] task result.task asked result.asked }
+{
+    let stage = Stage {
+        kernel,
+        names,
+        script,
+    };
+    go(rt, alloc, gate, stage, task, asked, pid, from, to)
 }
 
 /// The rest of a task's own lines up to a place, and all lines of its child, side by side.
@@ -234,40 +258,18 @@ fn halves<R: Threads + Wait + Sync, G: Gate + Sync, S: ScriptLines + Sync>(
             requires { (task.table ≡ kernel.now.table) × (task.version ≤ length task.journal) × (at ≤ until) × (until ≤ length (S.told script.now)) × (length names.now ≤ most_tasks) × ForksFirst (script_in kernel.now.labels names.now (S.told script.now)) }
             ensures { Ran (is_some result.stop) (script_in kernel.entry.now.labels names.entry.now (S.told script.entry.now)) (segment pid at until (S.told script.entry.now)) [] task result.task asked result.asked }
         {
-            go(
-                rt,
-                alloc,
-                gate,
-                Stage {
-                    kernel,
-                    names,
-                    script,
-                },
-                task,
-                asked,
-                pid,
-                at,
-                until,
+            go_by_parts(
+                rt, alloc, gate, kernel, names, script, task, asked, pid, at, until,
             )
         },
         || -> Worked
             requires { (kid.table ≡ kernel.now.table) × (kid.version ≤ length kid.journal) × (at ≤ length (S.told script.now)) × (length names.now ≤ most_tasks) × ForksFirst (script_in kernel.now.labels names.now (S.told script.now)) }
             ensures { Ran (is_some result.stop) (script_in kernel.entry.now.labels names.entry.now (S.told script.entry.now)) (segment child at (length (S.told script.entry.now)) (S.told script.entry.now)) [] kid result.task [] result.asked }
         {
-            go(
-                rt,
-                alloc,
-                gate,
-                Stage {
-                    kernel,
-                    names,
-                    script,
-                },
-                kid,
-                AskedLines::new(alloc),
-                child,
-                at,
-                count(script),
+            let asked = AskedLines::new(alloc);
+            let end = count(script);
+            go_by_parts(
+                rt, alloc, gate, kernel, names, script, kid, asked, child, at, end,
             )
         },
     )

@@ -1,4 +1,4 @@
-use Rattle.std.proofs.Common.{rules, ◌∷◌, is_some}
+use Rattle.std.proofs.Common.{◌∷◌, is_some}
 use Rattle.script_text.specs.Lines.{call_seen}
 use Rattle.task_runs.proofs.Calls.{ran_stopped}
 use Rattle.script_run.specs.Stages.{script_of}

@@ -1,4 +1,4 @@
-use Rattle.std.proofs.Common.{rules, arith, refl, sym, ap, ◌∙◌, subst, ◌≡◌, ◌∷◌, [], ◌+◌, ◌<◌, ◌≤◌, take, map, length, is_some, true, false}
+use Rattle.std.proofs.Common.{arith, refl, sym, ◌∙◌, subst, ◌∷◌, [], length, is_some}
 use Rattle.script_text.specs.Lines.{call_seen}
 use Rattle.task_runs.specs.Scripts.{segment}
 use Rattle.task_runs.proofs.Calls.{ran_none, ran_unchanged}

@@ -1,26 +1,29 @@
-use Rattle.std.proofs.Common.{◌≡◌, ◌+◌, ◌-◌, ◌*◌, ◌≤◌, ◌<◌, length, false, []}
+use Rattle.std.proofs.Common.{◌≡◌, ◌+◌, ◌-◌, ◌*◌, ◌≤◌, length, false}
 use Rattle.task_runs.specs.Scripts.{segment}
 use Rattle.task_runs.specs.Runs.{Ran}
 use Rattle.script_run.specs.Stages.{script_of}
 use Rattle.script_run.proofs.workers.+work.Given as goal
 
 abbrev pub decreases-halves-join+arg2 : goal.decreases-halves-join+arg2
-decreases-halves-join+arg2 g l = 5 * (length (g.S.ScriptLines.told l.script.now) - l.at) + 1
+decreases-halves-join+arg2 g l = 6 * (length (g.S.ScriptLines.told l.script.now) - l.at) + 2
 
 abbrev pub decreases-halves-join+arg3 : goal.decreases-halves-join+arg3
-decreases-halves-join+arg3 g l = 5 * (length (g.S.ScriptLines.told l.script.now) - l.at) + 1
+decreases-halves-join+arg3 g l = 6 * (length (g.S.ScriptLines.told l.script.now) - l.at) + 2
 
 abbrev pub decreases-halves : goal.decreases-halves
-decreases-halves g l = 5 * (length (g.S.ScriptLines.told l.stage.script.now) - l.at) + 2
+decreases-halves g l = 6 * (length (g.S.ScriptLines.told l.stage.script.now) - l.at) + 3
 
 abbrev pub decreases-fork_line : goal.decreases-fork_line
-decreases-fork_line g l = 5 * (length (g.S.ScriptLines.told l.stage.script.now) - l.at) + 3
+decreases-fork_line g l = 6 * (length (g.S.ScriptLines.told l.stage.script.now) - l.at) + 4
 
 abbrev pub decreases-go : goal.decreases-go
-decreases-go g l = 5 * (length (g.S.ScriptLines.told l.stage.script.now) - l.from)
+decreases-go g l = 6 * (length (g.S.ScriptLines.told l.stage.script.now) - l.from)
+
+abbrev pub decreases-go_by_parts : goal.decreases-go_by_parts
+decreases-go_by_parts g l = 6 * (length (g.S.ScriptLines.told l.script.now) - l.from) + 1
 
 abbrev pub decreases-step : goal.decreases-step
-decreases-step g l = 5 * (length (g.S.ScriptLines.told l.stage.script.now) - l.at) + 4
+decreases-step g l = 6 * (length (g.S.ScriptLines.told l.stage.script.now) - l.at) + 5
 
 abbrev pub invariant-go-loop-line : goal.invariant-go-loop-line
 invariant-go-loop-line g l = record {

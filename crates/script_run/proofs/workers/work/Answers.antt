@@ -1,4 +1,4 @@
-use Rattle.std.proofs.Common.{rules, arith, refl, sym, ◌∙◌, [], is_some}
+use Rattle.std.proofs.Common.{refl, ◌∙◌, [], is_some}
 use Rattle.task_runs.specs.Scripts.{scripted, lines_by}
 use Rattle.task_runs.proofs.Calls.{ran_unchanged}
 use Rattle.script_run.proofs.Working.{work_lines}

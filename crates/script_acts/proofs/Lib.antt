@@ -1,0 +1,2 @@
+pub mod LineActs
+pub mod LinePlaces

@@ -1,0 +1,3 @@
+pub mod LongPaths
+pub mod PackedWords
+pub mod Pids

@@ -1,0 +1,17 @@
+ghost use Rattle.std.specs.Prelude.{◌≡◌, IfOk};
+ghost use Rattle.script_text.specs.TaskTables.{names_in};
+
+use rule_text::Part;
+use smack_base::{Bytes, NameList};
+use std::alloc::{AllocError, Global};
+
+/// The names of tasks, copied.
+pub fn names_of(alloc: Global, tasks: &[Part<'_>]) -> Result<NameList, AllocError>
+    ensures { IfOk result (λ names. names ≡ names_in tasks.now) }
+{
+    let mut names = NameList::new(alloc);
+    for task in tasks {
+        names.push(Bytes::from_slice(alloc, task.bytes)?)?;
+    }
+    Ok(names)
+}

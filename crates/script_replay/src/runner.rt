@@ -1,0 +1,272 @@
+ghost use Rattle.std.specs.Prelude.{◌≡◌, ◌<◌, ◌≤◌, ◌+◌, ◌-◌, ◌^◌, ◌++◌, ◌∷◌, [], Ok, Some, length, map, IfOk, OnOk};
+ghost use Rattle.text_spec.specs.Names.{id_of};
+ghost use Rattle.rules_spec.specs.Creds.{is_effective};
+ghost use Rattle.rules_spec.specs.Rulings.{ruling};
+ghost use Rattle.file_spec.specs.Files.{compiled};
+ghost use Rattle.file_spec.specs.declared.Compiled.TheVariants.{Rules};
+ghost use Rattle.world_spec.specs.Worlds.{creds_of};
+ghost use Rattle.script_spec.specs.Grammar.{most_tasks};
+ghost use Rattle.script_spec.specs.Lines.{word_in};
+ghost use Rattle.script_text.specs.Lines.{call_seen};
+ghost use Rattle.replay_spec.specs.Calls.{of_one, pid_in as pid_of_word, task_call as task_call_of, tree_call as tree_call_of};
+ghost use Rattle.replay_spec.specs.Replays.{modes_in as modes_of_word, number_of_task, noted, after_line, published, written, answered, awaited, entered, stepped_by, run_first};
+ghost use Rattle.smack_world.specs.Stepping.{most_entries};
+ghost use Rattle.script_replay.specs.Running.{seen, IsRunning, Runs};
+
+use asked_lines::{AskedByTask, AskedLine, AskedWhat};
+use label_table::Labels;
+use rule_fold::{Batch, Journal, RuleIndex};
+use script_calls::{modes_in, pid_in, task_call, tree_call, words_of};
+use script_text::{Line, TaskVerb, TreeVerb, Verb, verb_of};
+use smack_base::{Bytes, Cap, LabelId, Modes, Pid, RuleOps};
+use smack_decide::{cases, effective};
+use smack_world::{Call, Stepped, TaskCall, World};
+use smackfs::{Compiled, Refusal, TextFault, compile};
+use std::alloc::{AllocError, Global};
+use task_creds::Cred;
+
+/// A run so far: the rules of its newest version, the world with the trail of its calls, and what
+/// else it leaves.
+#[derive(Drop)]
+pub struct Runner {
+    pub rules: RuleIndex,
+    pub journal: Journal,
+    pub world: World,
+    pub asked: AskedByTask,
+}
+
+impl Runner {
+    /// No call has run.
+    pub fn new(alloc: Global) -> Result<Runner, AllocError>
+        ensures first { IfOk result (λ run. seen run ≡ run_first) }
+        ensures running { IfOk result IsRunning }
+    {
+        Ok(Runner {
+            rules: RuleIndex::new(alloc)?,
+            journal: Journal::new(alloc),
+            world: World::new(alloc)?,
+            asked: AskedByTask::new(alloc)?,
+        })
+    }
+
+    /// The number of the task of a line.
+    fn task_of(&self, line: &Line<'_>) -> u16
+        ensures number { result ≡ number_of_task (seen self.now) (call_seen line.now) }
+        ensures limit { result ≤ most_tasks }
+    {
+        let made = self.world.tasks();
+        match self.world.live_task(Pid(line.task)) {
+            Some(task) => task,
+            None => made,
+        }
+    }
+
+    /// Publishes writes as one batch.
+    fn publish(&mut self, line: &Line<'_>, ops: RuleOps) -> Result<(), AllocError>
+        requires few { length self.old.journal < 2 ^ 32 - 1 }
+        requires running { IsRunning self.old }
+        ensures { OnOk result (Runs self.old self.new (published (seen self.old) (call_seen line.now) ops)) }
+    {
+        let batch = Batch {
+            task: self.task_of(line),
+            seq: line.seq,
+            ops,
+        };
+        self.rules.absorb(&batch)?;
+        self.journal.push(batch)?;
+        Ok(())
+    }
+
+    /// Keeps a line that is neither a batch nor an object call.
+    fn note(&mut self, line: &Line<'_>, what: AskedWhat) -> Result<(), AllocError>
+        requires running { IsRunning self.old }
+        ensures { OnOk result (Runs self.old self.new (noted (seen self.old) (call_seen line.now) what)) }
+    {
+        let task = self.task_of(line);
+        let version = self.rules.version();
+        self.asked.put(AskedLine {
+            task,
+            seq: line.seq,
+            version,
+            what,
+        })
+    }
+
+    /// Keeps the line of a refused write.
+    fn refuse(&mut self, alloc: Global, line: &Line<'_>, fault: Refusal) -> Result<(), AllocError>
+        requires running { IsRunning self.old }
+        ensures { OnOk result (Runs self.old self.new (noted (seen self.old) (call_seen line.now) (AskedWhat.Refused (word_in 1 (call_seen line.now)) fault))) }
+    {
+        let file = Bytes::from_slice(alloc, words_of(line).one)?;
+        self.note(line, AskedWhat::Refused { file, fault })
+    }
+
+    /// Whether the task of a line may change rules and settings in the newest version.
+    fn may_write(&self, alloc: Global, line: &Line<'_>) -> bool
+        requires running { IsRunning self.now }
+        ensures { result ≡ is_effective (creds_of self.now.world.world (number_of_task (seen self.now) (call_seen line.now))) Cap.MacAdmin (ruling self.now.journal) }
+    {
+        match self.world.cred(self.task_of(line)) {
+            Some(cred) => effective(cred, Cap::MacAdmin, &self.rules),
+            None => effective(&Cred::first(alloc), Cap::MacAdmin, &self.rules),
+        }
+    }
+
+    /// Publishes the writes of a text where the task may, and else keeps the line.
+    fn write_rules(
+        &mut self,
+        alloc: Global,
+        line: &Line<'_>,
+        ops: RuleOps,
+    ) -> Result<(), AllocError>
+        requires few { length self.old.journal < 2 ^ 32 - 1 }
+        requires running { IsRunning self.old }
+        ensures { OnOk result (Runs self.old self.new (written (seen self.old) (call_seen line.now) (Ok (Rules ops)))) }
+    {
+        if self.may_write(alloc, line) {
+            self.publish(line, ops)
+        } else {
+            self.refuse(alloc, line, Refusal::NotPrivileged)
+        }
+    }
+
+    /// Writes the text of a line to its file.
+    fn write(&mut self, alloc: Global, labels: &Labels, line: &Line<'_>) -> Result<(), AllocError>
+        requires few { length self.old.journal < 2 ^ 32 - 1 }
+        requires running { IsRunning self.old }
+        requires room { length self.old.world.trail < most_entries }
+        ensures { OnOk result (Runs self.old self.new (written (seen self.old) (call_seen line.now) (compiled labels.now (word_in 1 (call_seen line.now)) line.now.text.bytes.now))) }
+    {
+        match compile(alloc, labels, words_of(line).one, line.text.bytes) {
+            Ok(Compiled::Rules(ops)) => self.write_rules(alloc, line, ops),
+            Ok(Compiled::SelfRules(rules)) => {
+                self.enter(alloc, line, Call::Task(TaskCall::SelfRules { rules }))
+            }
+            Ok(Compiled::Relabels(labels)) => {
+                self.enter(alloc, line, Call::Task(TaskCall::Relabels { labels }))
+            }
+            Err(TextFault::Refused(fault)) => self.refuse(alloc, line, fault),
+            Err(TextFault::Memory) => Err(AllocError),
+        }
+    }
+
+    /// Answers a question in the newest version, where its labels and its modes are there.
+    fn answer(
+        &mut self,
+        line: &Line<'_>,
+        s: Option<LabelId>,
+        o: Option<LabelId>,
+        m: Option<Modes>,
+    ) -> Result<(), AllocError>
+        requires running { IsRunning self.old }
+        ensures { OnOk result (Runs self.old self.new (answered (seen self.old) (call_seen line.now) s o m)) }
+    {
+        let (Some(s), Some(o)) = (s, o) else {
+            return Ok(());
+        };
+        match m {
+            Some(m) => {
+                let verdict = cases(&self.rules, s, o, m);
+                self.note(line, AskedWhat::Ask(verdict))
+            }
+            None => Ok(()),
+        }
+    }
+
+    /// Answers the question of a line, where its words are labels of the table and modes.
+    fn ask(&mut self, labels: &Labels, line: &Line<'_>) -> Result<(), AllocError>
+        requires running { IsRunning self.old }
+        ensures { OnOk result (Runs self.old self.new (answered (seen self.old) (call_seen line.now) (id_of labels.now (word_in 1 (call_seen line.now))) (id_of labels.now (word_in 2 (call_seen line.now))) (modes_of_word (word_in 3 (call_seen line.now))))) }
+    {
+        let words = words_of(line);
+        let m = modes_in(words.three);
+        self.answer(line, labels.id(words.one), labels.id(words.two), m)
+    }
+
+    /// Keeps the line of a wait for a task, where its word names one.
+    fn wait(&mut self, names: &[Bytes], line: &Line<'_>) -> Result<(), AllocError>
+        requires running { IsRunning self.old }
+        requires names { length names.now ≤ most_tasks }
+        ensures { OnOk result (Runs self.old self.new (awaited (seen self.old) (call_seen line.now) (pid_of_word names.now (word_in 1 (call_seen line.now))))) }
+    {
+        match pid_in(names, words_of(line).one) {
+            Some(pid) => self.note(line, AskedWhat::Wait { pid }),
+            None => Ok(()),
+        }
+    }
+
+    /// Takes a step of the world in the newest version.
+    fn enter(&mut self, alloc: Global, line: &Line<'_>, call: Call) -> Result<(), AllocError>
+        requires running { IsRunning self.old }
+        requires room { length self.old.world.trail < most_entries }
+        ensures { OnOk result (Runs self.old self.new (stepped_by (seen self.old) (call_seen line.now) call)) }
+    {
+        let task = self.task_of(line);
+        match self.world.step(alloc, &self.rules, task, line.seq, call) {
+            Ok(Stepped::Entered { .. }) => Ok(()),
+            Ok(Stepped::TrailFull(_)) => unreachable!(),
+            Err(_) => Err(AllocError),
+        }
+    }
+
+    /// Makes the call of a line on tasks.
+    fn task_line(
+        &mut self,
+        alloc: Global,
+        labels: &Labels,
+        names: &[Bytes],
+        line: &Line<'_>,
+        verb: TaskVerb,
+    ) -> Result<(), AllocError>
+        requires running { IsRunning self.old }
+        requires room { length self.old.world.trail < most_entries }
+        requires names { length names.now ≤ most_tasks }
+        ensures { OnOk result (Runs self.old self.new (entered (seen self.old) (call_seen line.now) (of_one (task_call_of labels.now names.now (call_seen line.now) verb) (λ call. Call.Task call)))) }
+    {
+        match task_call(labels, names, line, verb) {
+            Some(call) => self.enter(alloc, line, Call::Task(call)),
+            None => Ok(()),
+        }
+    }
+
+    /// Makes the call of a line on the file tree.
+    fn tree_line(
+        &mut self,
+        alloc: Global,
+        line: &Line<'_>,
+        verb: TreeVerb,
+    ) -> Result<(), AllocError>
+        requires running { IsRunning self.old }
+        requires room { length self.old.world.trail < most_entries }
+        ensures { OnOk result (Runs self.old self.new (entered (seen self.old) (call_seen line.now) (of_one (tree_call_of (call_seen line.now) verb) (λ call. Call.Tree call)))) }
+    {
+        match tree_call(alloc, line, verb)? {
+            Some(call) => self.enter(alloc, line, Call::Tree(call)),
+            None => Ok(()),
+        }
+    }
+
+    /// Runs one more call, by the labels of its script and the names of its tasks.
+    pub fn step(
+        &mut self,
+        alloc: Global,
+        labels: &Labels,
+        names: &[Bytes],
+        line: &Line<'_>,
+    ) -> Result<(), AllocError>
+        requires few { length self.old.journal < 2 ^ 32 - 1 }
+        requires running { IsRunning self.old }
+        requires room { length self.old.world.trail < most_entries }
+        requires names { length names.now ≤ most_tasks }
+        ensures { OnOk result (Runs self.old self.new (after_line labels.now names.now (seen self.old) (call_seen line.now))) }
+    {
+        match verb_of(line.verb.bytes) {
+            Some(Verb::Write) => self.write(alloc, labels, line),
+            Some(Verb::Ask) => self.ask(labels, line),
+            Some(Verb::Wait) => self.wait(names, line),
+            Some(Verb::Task(verb)) => self.task_line(alloc, labels, names, line, verb),
+            Some(Verb::Tree(verb)) => self.tree_line(alloc, line, verb),
+            None => Ok(()),
+        }
+    }
+}
