@@ -102,7 +102,7 @@ module _ (j j' : List Batch) (b : Begins j' j) where
     all_at-grow k [] a = tt
     all_at-grow k (d ∷ ds) a = (at_grow k d a.0, all_at-grow k ds a.1)
 
-    made_grow : (k : ℕ) (ds : List Deed) → batches_by k j' ≡ batches_by k j → entries_of k h' ≡ entries_of k h → Made j h k ds → Made j' h' k ds
+    pub made_grow : (k : ℕ) (ds : List Deed) → batches_by k j' ≡ batches_by k j → entries_of k h' ≡ entries_of k h → Made j h k ds → Made j' h' k ds
     made_grow k ds bs es q = record { batches = bs ∙ q.batches; entries = es ∙ q.entries; at = all_at-grow k ds q.at }
 
     -- the numbers have no more calls in the longer lists

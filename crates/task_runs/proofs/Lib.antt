@@ -5,3 +5,4 @@ pub mod Forking
 pub mod Meetings
 pub mod Segments
 pub mod Lines
+pub mod Stops

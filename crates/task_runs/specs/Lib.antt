@@ -2,3 +2,4 @@ pub mod Scripts
 pub mod Deeds
 pub mod Runs
 pub mod Meetings
+pub mod Stops

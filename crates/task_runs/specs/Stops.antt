@@ -1,0 +1,44 @@
+use Rattle.std.specs.Prelude.{◌⊎◌, ◌≡◌, ℕ, ◌+◌, ◌<◌, ◌≤◌, List, ◌∷◌, length, None}
+use Rattle.smack_base.specs.declared.ids.Pid.{Pid}
+use Rattle.world_spec.specs.declared.Call.TheVariants.{Task}
+use Rattle.world_spec.specs.declared.TaskCall.TheVariants.{Fork}
+use Rattle.world_spec.specs.declared.Entry.{Entry}
+use Rattle.script_spec.specs.Lines.{ScriptLine}
+use Rattle.legal_spec.specs.Calls.{IsForkOf}
+use Rattle.smack_world.specs.Stepping.{most_entries}
+use Rattle.live_table.specs.Lists.{Has}
+use Rattle.smack_kernel.specs.Histories.{child_of}
+use Rattle.smack_kernel.specs.Tasks.{TaskValue}
+use Rattle.task_runs.specs.Scripts.{Scripted, lines_by}
+use Rattle.task_runs.specs.Deeds.{Deed, Made, FitsTo}
+
+-- the calls of number k are those of the first lines of a forked script task, and some of its lines have no call
+pub record IsCutShort (s : Scripted) (w : TaskValue) (k : ℕ) : Type 0 where
+  pub fork : Entry
+  pub there : Has fork w.history
+  pub pid : ℕ
+  pub is : IsForkOf fork k (record { 0 = pid })
+  pub calls : List Deed
+  pub made : Made w.journal w.history k calls
+  pub rest : List ScriptLine
+  pub fits : FitsTo s k 1 calls (lines_by pid s.lines) rest
+  pub some : 0 < length rest
+
+-- A task that was v and is w has made no call for some of these lines, or a task that it adopted has made none for some
+-- of its own.
+abbrev pub LacksCalls : Scripted → List ScriptLine → TaskValue → TaskValue → Type 0
+LacksCalls s ls v w = (w.made < v.made + length ls) ⊎ ((k : ℕ) × Has k w.ended × IsCutShort s w k)
+
+-- the history has all entries that it may have, and some lines have no call
+pub record IsOutOfEntries (s : Scripted) (ls : List ScriptLine) (v w : TaskValue) : Type 0 where
+  pub full : most_entries ≤ length w.history
+  pub lacks : LacksCalls s ls v w
+
+-- a fork of the task, or of one that it adopted, made no task
+pub record HasForkedNone (w : TaskValue) : Type 0 where
+  pub fork : Entry
+  pub there : Has fork w.history
+  pub own : Has fork.task (w.number ∷ w.ended)
+  pub pid : Pid
+  pub is : fork.call ≡ Task (Fork pid)
+  pub none : child_of fork.reply ≡ None
