@@ -71,7 +71,7 @@ count_kinds q (answered l m ∷ ds) =
     let c = count-cons (λ (x : AskedLine). x.seq == q) l (lines_of ds) in
     let d = count-cons (λ (x : Deed). seq_of x == q) (answered l m) ds in omega (arith, i, c, d)
 
-length_kinds : (ds : List Deed) → (length (batches_in ds) + length (entries_in ds)) + length (lines_of ds) ≡ length ds
+pub length_kinds : (ds : List Deed) → (length (batches_in ds) + length (entries_in ds)) + length (lines_of ds) ≡ length ds
 length_kinds [] = refl
 length_kinds (entered e n ∷ ds) = let i = length_kinds ds in omega (arith, i)
 length_kinds (batched n b m ∷ ds) = let i = length_kinds ds in omega (arith, i)

@@ -41,11 +41,8 @@ use Rattle.legal_runs.proofs.Histories.{child_above, one_child, same_stand}
 use Rattle.legal_runs.proofs.Sorting.{in_order}
 use Rattle.legal_runs.proofs.Counts.{count_is, count_length}
 use Rattle.legal_runs.proofs.Legal.{record_of, life, numbers_in}
-use Rattle.legal_runs.proofs.Pids.{no_fork, one_fork}
+use Rattle.legal_runs.proofs.Numbers.{pid_of_life, one_number}
 use Rattle.legal_runs.proofs.ScriptLines.{lines_numbered, DeedOfLine, deed_of_line, calls_and_lines, ForkLine, fork_line_of}
-
-same_pid : (a b : Pid) → Task (Fork a) ≡ Task (Fork b) → a ≡ b
-same_pid a b is = cc
 
 same_call : (a b : Call) → ◌≡◌ {A = Option Call} (Some a) (Some b) → a ≡ b
 same_call a b is = cc
@@ -83,34 +80,6 @@ module _ (lines : List ScriptLine) (good : AreGoodLines [] lines) (table : IsNam
   abbrev LifeOf : ℕ → Type 0
   LifeOf k = Life true (scripted lines) w.journal w.history (in_order (asked_of g.run)) k
 
-  -- the task of a number has the pid of its lines
-  pid_of_life : (k : ℕ) (pid : Pid) (L : LifeOf k) → IsNumberOf h k pid → L.pid ≡ pid.0
-  pid_of_life k pid L is =
-      ⊎_elim (λ z. ⊎_elim (λ y. z.1 ∙ sym y.1)
-      (λ b. absurd (let x = (child_above 0 0 b.0 h b.1 k c.legal b.2 (ap child_of b.3.1)).0 in let x' = z.0 in omega arith)) is)
-      (λ a. ⊎_elim (λ y. absurd (let x = (child_above 0 0 a.1 h a.0 k c.legal a.2 (ap child_of a.3.1)).0 in let x' = y.0 in omega arith))
-      (λ b.
-      let place = one_child 0 0 a.1 b.0 h a.0 b.1 k c.legal a.2 b.2 (ap child_of a.3.1) (ap child_of b.3.1) in
-      let same = same_stand h a.1 b.0 a.0 b.1 place a.2 b.2 in
-      ap (λ (p : Pid). p.0) (same_pid (record { 0 = L.pid }) pid (sym a.3.0 ∙ (ap (λ (e : Entry). e.call) same ∙ b.3.0)))) is) L.born
-
-  -- a pid has one number
-  one_number : (k i : ℕ) (pid : Pid) → IsNumberOf h k pid → IsNumberOf h i pid → k ≡ i
-  one_number k i pid is it =
-      ⊎_elim (λ y. ⊎_elim (λ z. y.0 ∙ sym z.0) (λ b. absurd (first pid y.1 b.0 b.1 i b.2 b.3)) it)
-      (λ a. ⊎_elim (λ z. absurd (first pid z.1 a.0 a.1 k a.2 a.3))
-      (λ b.
-      let place = one_fork pid w.journal world_first h a.0 b.0 a.1 b.1 k i c.steps a.2 b.2 a.3 b.3 in
-      let same = same_stand h a.0 b.0 a.1 b.1 place a.2 b.2 in
-      same_child k i (sym a.3.1 ∙ (ap (λ (e : Entry). e.reply) same ∙ b.3.1))) it) is
-    where
-      same_child : (x y : ℕ) → Child x ≡ Child y → x ≡ y
-      same_child x y e = cc
-
-      first : (p : Pid) → p.0 ≡ 0 → (n : ℕ) (e : Entry) (k : ℕ) → Stands h n e → IsForkOf e k p → ⊥
-      first p zero_ n e k st fork =
-          no_fork p w.journal world_first h n e k c.steps (ap (λ (x : ℕ). (0 == x) || false) zero_) st fork
-
   life_of : (k : ℕ) (pid : Pid) → IsNumberOf h k pid → LifeOf k
   life_of k pid is =
       life true (scripted lines) left done t w g labels closed c k (numbers_in true (scripted lines) left done t w g labels closed c k pid is)
@@ -119,7 +88,7 @@ module _ (lines : List ScriptLine) (good : AreGoodLines [] lines) (table : IsNam
   call_of : (k : ℕ) (pid : Pid) → IsNumberOf h k pid → (L : LifeOf k) → (l : ScriptLine) → Has l lines → l.task ≡ pid.0
       → DeedOfLine (scripted lines) k L.calls l
   call_of k pid is L l there_ own =
-      let same = pid_of_life k pid L is in
+      let same = pid_of_life true (scripted lines) w.journal h ls c.steps c.legal k pid L is in
       deed_of_line (scripted lines) k 1 L.calls (lines_by L.pid lines) l
       (subst (FitsTo (scripted lines) k 1 L.calls (lines_by L.pid lines)) (L.done refl) L.fits) (lines_numbered L.pid lines good)
       (has_those (λ (x : ScriptLine). x.task) L.pid lines l (own ∙ sym same) there_)
@@ -182,7 +151,7 @@ module _ (lines : List ScriptLine) (good : AreGoodLines [] lines) (table : IsNam
         record {
           number = k.0;
           is = k.1;
-          one = λ i is. one_number i k.0 pid is k.1;
+          one = λ i is. one_number true (scripted lines) w.journal h ls c.steps c.legal i k.0 pid is k.1;
           recorded = λ i l st own. recorded k.0 pid k.1 l (stands_has lines i l st) own;
           many = many k.0 pid k.1;
         };
@@ -190,7 +159,7 @@ module _ (lines : List ScriptLine) (good : AreGoodLines [] lines) (table : IsNam
     many : (k : ℕ) (pid : Pid) → IsNumberOf h k pid → call_count r k ≡ lines_of_task lines pid.0
     many k pid is =
         let L = life_of k pid is in
-        let same = pid_of_life k pid L is in
+        let same = pid_of_life true (scripted lines) w.journal h ls c.steps c.legal k pid L is in
         let a = count_is (scripted lines) r k (record {
           calls = L.calls;
           ls = lines_by L.pid lines;

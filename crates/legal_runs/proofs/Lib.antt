@@ -10,8 +10,15 @@ pub mod Counts
 pub mod Creds
 pub mod Legal
 pub mod Pids
+pub mod Numbers
 pub mod ScriptLines
 pub mod Fitting
 pub mod Forked
 pub mod LegalFor
+pub mod Sums
+pub mod Entries
+pub mod FewLines
+pub mod Pigeons
+pub mod Tasks
+pub mod Places
 pub mod Plain

@@ -1,0 +1,112 @@
+-- A history has as many entries as its script has lines, or fewer; and fewer where a line has no call.
+use Rattle.std.proofs.Common.{◌≡◌, ℕ, ◌+◌, ◌<◌, ◌≤◌, List, [], ◌∷◌, length, Bool, true, sym, refl, ap, ◌∙◌, subst, arith, ⊎_elim, inl, inr}
+use Rattle.atomic_table.specs.Seated.{TableId}
+use Rattle.world_spec.specs.declared.Entry.{Entry}
+use Rattle.script_spec.specs.Lines.{ScriptLine}
+use Rattle.legal_spec.specs.Calls.{IsNumberOf}
+use Rattle.live_table.specs.Lists.{Has, here, there}
+use Rattle.smack_kernel.specs.Tasks.{TaskValue, first_task}
+use Rattle.smack_kernel.specs.Answers.{ClosedValue, Closes}
+use Rattle.task_runs.specs.Scripts.{Scripted, lines_by}
+use Rattle.task_runs.specs.Deeds.{entries_of, Deed, entries_in, FitsTo}
+use Rattle.task_runs.specs.Runs.{own, numbers, asked_of, Distinct, Went}
+use Rattle.task_runs.specs.Stops.{IsCutShort, LacksCalls}
+use Rattle.task_runs.proofs.Stops.{fits_length}
+use Rattle.legal_runs.proofs.Lists.{has_stands}
+use Rattle.legal_runs.proofs.Sorting.{in_order}
+use Rattle.legal_runs.proofs.Counts.{length_kinds}
+use Rattle.legal_runs.proofs.Legal.{life, named, entry_task}
+use Rattle.legal_runs.proofs.Numbers.{pid_of_life, one_number}
+use Rattle.legal_runs.proofs.Sums.{sum_of, under, all_under, under_distinct}
+
+entries_few : (ds : List Deed) → length (entries_in ds) ≤ length ds
+entries_few ds = omega (arith, length_kinds ds)
+
+module _ (full : Bool) (s : Scripted) (left : List ScriptLine) (done : full ≡ true → left ≡ []) (t : TableId) (w : TaskValue) (g : Went full s (lines_by 0 s.lines) left (first_task t) w) (labels : List (List ℕ)) (closed : ClosedValue) (c : Closes labels w closed) where
+  abbrev h : List Entry
+  h = w.history
+
+  abbrev all : List ℕ
+  all = 0 ∷ numbers g.run
+
+  abbrev entry_count : ℕ → ℕ
+  entry_count k = length (entries_of k h)
+
+  abbrev line_count : ℕ → ℕ
+  line_count p = length (lines_by p s.lines)
+
+  -- a number with fewer entries than its script task has lines
+  record IsShort (k : ℕ) : Type 0 where
+    pid : ℕ
+    is : IsNumberOf h k (record { 0 = pid })
+    fewer : entry_count k < line_count pid
+
+  -- numbers and their pids: no more entries than lines
+  record Tally (ks : List ℕ) : Type 0 where
+    pids : List ℕ
+    distinct : Distinct pids
+    of : (p : ℕ) → Has p pids → (k : ℕ) × Has k ks × IsNumberOf h k (record { 0 = p })
+    few : sum_of entry_count ks ≤ sum_of line_count pids
+    fewer : (k : ℕ) → Has k ks → IsShort k → sum_of entry_count ks < sum_of line_count pids
+
+  tally_more : (k pid : ℕ) (ks : List ℕ) → IsNumberOf h k (record { 0 = pid }) → entry_count k ≤ line_count pid
+      → ((p : ℕ) → IsNumberOf h k (record { 0 = p }) → pid ≡ p) → (Has k ks → ⊥) → Tally ks → Tally (k ∷ ks)
+  tally_more k pid ks is low one new T = record {
+    pids = pid ∷ T.pids;
+    distinct = (
+      (λ i.
+      let b = T.of pid i in
+      let same = one_number full s w.journal h (in_order (asked_of g.run)) c.steps c.legal k b.0 (record { 0 = pid }) is b.2 in
+      new (subst (λ n. Has n ks) (sym same) b.1)),
+      T.distinct,
+    );
+    of = of;
+    few = omega (arith, low, T.few);
+    fewer = fewer;
+  } where
+    of : (p : ℕ) → Has p (pid ∷ T.pids) → (n : ℕ) × Has n (k ∷ ks) × IsNumberOf h n (record { 0 = p })
+    of p here = (k, here, is)
+    of p (there i) = let b = T.of p i in (b.0, there b.1, b.2)
+
+    fewer : (n : ℕ) → Has n (k ∷ ks) → IsShort n → sum_of entry_count (k ∷ ks) < sum_of line_count (pid ∷ T.pids)
+    fewer n here q =
+        let same = ap line_count (one q.pid q.is) in omega (arith, same, q.fewer, T.few)
+    fewer n (there i) q = omega (arith, low, T.fewer n i q)
+
+  tally : (ks : List ℕ) → Distinct ks → ((k : ℕ) → Has k ks → Has k all) → Tally ks
+  tally [] d within = record { pids = []; distinct = tt; of = λ p i. elim i [ ]; few = omega arith; fewer = λ k i. elim i [ ] }
+  tally (k ∷ ks) d within =
+      let L = life full s left done t w g labels closed c k (within k here) in
+      tally_more k L.pid ks (named full s left done t w g labels closed c k L)
+      (omega (arith, ap (λ (es : List Entry). length es) L.entries, entries_few L.calls,
+      fits_length s k 1 L.calls (lines_by L.pid s.lines) L.rest L.fits))
+      (λ p is. pid_of_life full s w.journal h (in_order (asked_of g.run)) c.steps c.legal k (record { 0 = p }) L is)
+      d.0 (tally ks d.1 (λ n i. within n (there i)))
+
+  short_of : LacksCalls s (lines_by 0 s.lines) (first_task t) w → (k : ℕ) × Has k all × IsShort k
+  short_of lacks = ⊎_elim
+      (λ m. (0, here, record {
+        pid = 0;
+        is = inl (refl, refl);
+        fewer = omega (arith, m, g.made, ap (λ (es : List Entry). length es) g.own_entries, entries_few (own g.run));
+      }))
+      (λ b. (b.0, there (subst (Has b.0) g.ended b.1), cut b.0 b.2)) lacks
+    where
+      cut : (k : ℕ) → IsCutShort s w k → IsShort k
+      cut k q = let st = has_stands h q.fork q.there in record {
+        pid = q.pid;
+        is = inr (st.0, q.fork, st.1, q.is);
+        fewer = omega (arith, ap (λ (es : List Entry). length es) q.made.entries, entries_few q.calls, q.some,
+            fits_length s k 1 q.calls (lines_by q.pid s.lines) q.rest q.fits);
+      }
+
+  pub fewer_entries : LacksCalls s (lines_by 0 s.lines) (first_task t) w → length h < length s.lines
+  fewer_entries lacks =
+      let T = tally all ((λ u. g.apart 0 here u), g.distinct) (λ k u. u) in
+      let q = short_of lacks in
+      omega (
+        arith,
+        all_under (λ (e : Entry). e.task) h all (λ e u. let st = has_stands h e u in entry_task full s left done t w g labels closed c st.0 e st.1),
+        T.fewer q.0 q.1 q.2,
+        under_distinct (λ (l : ScriptLine). l.task) s.lines T.pids T.distinct,
+      )
