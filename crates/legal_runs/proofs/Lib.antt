@@ -21,4 +21,6 @@ pub mod FewLines
 pub mod Pigeons
 pub mod Tasks
 pub mod Places
+pub mod Forking
+pub mod Room
 pub mod Plain

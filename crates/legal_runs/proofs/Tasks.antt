@@ -289,7 +289,7 @@ made_later x es n p b = record {
   is = b.is;
 }
 
-one_pid : (p q : ℕ) → Has p (q ∷ []) → p ≡ q
+pub one_pid : (p q : ℕ) → Has p (q ∷ []) → p ≡ q
 one_pid p q here = refl
 one_pid p q (there h) = elim h [ ]
 

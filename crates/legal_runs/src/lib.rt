@@ -4,7 +4,7 @@
 //! `IsLegalFor` of legal_spec. A law is the contract of a function without a body.
 #![tactic(auto)]
 
-ghost use Rattle.legal_runs.specs.Laws.{RunsAreWhole, RunsAreLegal, RunsAreLegalForScripts, RunsArePlain};
+ghost use Rattle.legal_runs.specs.Laws.{RunsAreWhole, RunsAreLegal, RunsAreLegalForScripts, RunsArePlain, RunsHaveRoom};
 
 /// The law: however far the tasks of a script came, the first task may close the kernel.
 pub fn runs_are_whole()
@@ -24,4 +24,10 @@ pub fn runs_are_legal_for_scripts()
 /// The law: it is plain, so that its text tells it.
 pub fn runs_are_plain()
     ensures { RunsArePlain }
+{}
+
+/// The law: however far the tasks of a script came, the history had room for the call of each line,
+/// and each fork made a task.
+pub fn runs_have_room()
+    ensures { RunsHaveRoom }
 {}
