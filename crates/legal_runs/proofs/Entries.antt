@@ -1,16 +1,16 @@
--- A history has as many entries as its script has lines, or fewer; and fewer where a line has no call.
+-- A history has fewer entries than its script has lines where a line has no call; and no task has more calls than lines.
 use Rattle.std.proofs.Common.{◌≡◌, ℕ, ◌+◌, ◌<◌, ◌≤◌, List, [], ◌∷◌, length, Bool, true, sym, refl, ap, ◌∙◌, subst, arith, ⊎_elim, inl, inr}
 use Rattle.atomic_table.specs.Seated.{TableId}
 use Rattle.world_spec.specs.declared.Entry.{Entry}
 use Rattle.script_spec.specs.Lines.{ScriptLine}
 use Rattle.legal_spec.specs.Calls.{IsNumberOf}
 use Rattle.live_table.specs.Lists.{Has, here, there}
-use Rattle.smack_kernel.specs.Tasks.{TaskValue, first_task}
+use Rattle.smack_kernel.specs.Tasks.{TaskValue, first_task, most_calls}
 use Rattle.smack_kernel.specs.Answers.{ClosedValue, Closes}
 use Rattle.task_runs.specs.Scripts.{Scripted, lines_by}
 use Rattle.task_runs.specs.Deeds.{entries_of, Deed, entries_in, FitsTo}
 use Rattle.task_runs.specs.Runs.{own, numbers, asked_of, Distinct, Went}
-use Rattle.task_runs.specs.Stops.{IsCutShort, LacksCalls}
+use Rattle.task_runs.specs.Stops.{IsForkedTask, LacksCalls, IsOutOfCalls}
 use Rattle.task_runs.proofs.Stops.{fits_length}
 use Rattle.legal_runs.proofs.Lists.{has_stands}
 use Rattle.legal_runs.proofs.Sorting.{in_order}
@@ -90,13 +90,13 @@ module _ (full : Bool) (s : Scripted) (left : List ScriptLine) (done : full ≡ 
         is = inl (refl, refl);
         fewer = omega (arith, m, g.made, ap (λ (es : List Entry). length es) g.own_entries, entries_few (own g.run));
       }))
-      (λ b. (b.0, there (subst (Has b.0) g.ended b.1), cut b.0 b.2)) lacks
+      (λ b. (b.0, there (subst (Has b.0) g.ended b.1), cut b.0 b.2 b.3)) lacks
     where
-      cut : (k : ℕ) → IsCutShort s w k → IsShort k
-      cut k q = let st = has_stands h q.fork q.there in record {
+      cut : (k : ℕ) → (q : IsForkedTask s w k) → 0 < length q.rest → IsShort k
+      cut k q some = let st = has_stands h q.fork q.there in record {
         pid = q.pid;
         is = inr (st.0, q.fork, st.1, q.is);
-        fewer = omega (arith, ap (λ (es : List Entry). length es) q.made.entries, entries_few q.calls, q.some,
+        fewer = omega (arith, ap (λ (es : List Entry). length es) q.made.entries, entries_few q.calls, some,
             fits_length s k 1 q.calls (lines_by q.pid s.lines) q.rest q.fits);
       }
 
@@ -110,3 +110,13 @@ module _ (full : Bool) (s : Scripted) (left : List ScriptLine) (done : full ≡ 
         T.fewer q.0 q.1 q.2,
         under_distinct (λ (l : ScriptLine). l.task) s.lines T.pids T.distinct,
       )
+
+  lines_within : (p : ℕ) → line_count p ≤ length s.lines
+  lines_within p = omega (arith, under_distinct (λ (l : ScriptLine). l.task) s.lines (p ∷ []) ((λ u. elim u [ ]), tt))
+
+  -- no task has more calls than the script has lines
+  pub calls_within : IsOutOfCalls s w → most_calls ≤ length s.lines
+  calls_within out = ⊎_elim
+      (λ m. omega (arith, m, g.made, fits_length s 0 1 (own g.run) (lines_by 0 s.lines) left g.fits, lines_within 0))
+      (λ b. let f = b.2 in
+          omega (arith, b.3, fits_length s b.0 1 f.calls (lines_by f.pid s.lines) f.rest f.fits, lines_within f.pid)) out

@@ -1,11 +1,11 @@
--- The tasks of a script had room for each of its lines, however far they came.
+-- The tasks of a script had room for the call of each of its lines, however far they came.
 use Rattle.std.proofs.Common.{◌≡◌, ◌<◌, List, [], true, false, Bool, not, refl, arith}
 use Rattle.script_spec.specs.Lines.{table_of}
 use Rattle.plain_records.proofs.GoodLines.{good_lines}
 use Rattle.plain_records.proofs.Tasks.{names_are_a_table}
 use Rattle.task_runs.specs.Scripts.{scripted}
 use Rattle.legal_runs.specs.Laws.{RunsHaveRoom}
-use Rattle.legal_runs.proofs.Entries.{fewer_entries}
+use Rattle.legal_runs.proofs.Entries.{fewer_entries, calls_within}
 use Rattle.legal_runs.proofs.FewLines.{few_lines}
 use Rattle.legal_runs.proofs.Forking.{none_forked_none}
 
@@ -19,6 +19,9 @@ runs_have_room bytes lines is stop table w asked ran closed c =
       (λ out.
       let fewer = fewer_entries (not stop) (scripted lines) ran.left done table w ran.went (table_of lines) closed c out.lacks in
       absurd (omega (arith, fewer, out.full, few_lines bytes lines is))),
+      (λ out.
+      let calls = calls_within (not stop) (scripted lines) ran.left done table w ran.went (table_of lines) closed c out in
+      absurd (omega (arith, calls, few_lines bytes lines is))),
       none_forked_none lines (good_lines bytes lines is) (names_are_a_table bytes lines is) (not stop) ran.left done table w ran.went
           (table_of lines) closed c,
     )

@@ -14,7 +14,7 @@ use Rattle.smack_kernel.specs.Tasks.{TaskValue, first_task}
 use Rattle.smack_kernel.specs.Answers.{IsWhole, ClosedValue, Closes}
 use Rattle.task_runs.specs.Scripts.{scripted, lines_by}
 use Rattle.task_runs.specs.Runs.{Ran}
-use Rattle.task_runs.specs.Stops.{IsOutOfEntries, HasForkedNone}
+use Rattle.task_runs.specs.Stops.{IsOutOfEntries, IsOutOfCalls, HasForkedNone}
 
 -- the first task of a kernel ran the first task of a script, to its end or, where it stopped, less far, and asked these
 abbrev pub FirstRan : Bool → List ScriptLine → TableId → TaskValue → List AskedLine → Type 0
@@ -57,9 +57,11 @@ RunsArePlain =
     → FirstRan false lines table w asked → (closed : ClosedValue) → Closes (table_of lines) w closed
     → IsPlain (run_record lines closed asked)
 
--- However far they came, the history had room for the call of each line, and each fork made a task.
+-- However far they came, the history and the counts of calls had room for the call of each line, and each fork made a
+-- task.
 abbrev pub RunsHaveRoom : Type 0
 RunsHaveRoom =
     (bytes : List ℕ) (lines : List ScriptLine) → parse bytes ≡ Ok lines → (stop : Bool) (table : TableId) (w : TaskValue)
     (asked : List AskedLine) → FirstRan stop lines table w asked → (closed : ClosedValue) → Closes (table_of lines) w closed
-    → (IsOutOfEntries (scripted lines) (lines_by 0 lines) (first_task table) w → ⊥) × (HasForkedNone w → ⊥)
+    → (IsOutOfEntries (scripted lines) (lines_by 0 lines) (first_task table) w → ⊥) × (IsOutOfCalls (scripted lines) w → ⊥)
+    × (HasForkedNone w → ⊥)

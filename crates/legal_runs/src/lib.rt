@@ -26,8 +26,8 @@ pub fn runs_are_plain()
     ensures { RunsArePlain }
 {}
 
-/// The law: however far the tasks of a script came, the history had room for the call of each line,
-/// and each fork made a task.
+/// The law: however far the tasks of a script came, the history and the counts of calls had room for
+/// the call of each line, and each fork made a task.
 pub fn runs_have_room()
     ensures { RunsHaveRoom }
 {}

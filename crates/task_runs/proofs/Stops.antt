@@ -15,7 +15,7 @@ use Rattle.smack_kernel.specs.declared.turns.Entered.{Entered}
 use Rattle.task_runs.specs.Scripts.{Scripted, lines_by}
 use Rattle.task_runs.specs.Deeds.{entries_of, Deed, entries_in, batches_in, Made, FitsTo}
 use Rattle.task_runs.specs.Runs.{own, Went}
-use Rattle.task_runs.specs.Stops.{IsCutShort, IsOutOfEntries, HasForkedNone}
+use Rattle.task_runs.specs.Stops.{IsForkedTask, IsOutOfEntries, IsOutOfCalls, HasForkedNone}
 use Rattle.task_runs.proofs.Growing.{made_grow, all_at-grow}
 
 has_more : {A : Type 0} (xs ys : List A) (x : A) → Begins xs ys → Has x ys → Has x xs
@@ -82,8 +82,8 @@ module _ (s : Scripted) (v c w : TaskValue) (a : Adopts v c w) where
     none = n.none;
   }
 
-  short_mine : (k : ℕ) → Has k v.ended → IsCutShort s v k → IsCutShort s w k
-  short_mine k h t = record {
+  forked_mine : (k : ℕ) → Has k v.ended → IsForkedTask s v k → IsForkedTask s w k
+  forked_mine k h t = record {
     fork = t.fork;
     there = has_more w.history v.history t.fork a.history t.there;
     pid = t.pid;
@@ -92,11 +92,10 @@ module _ (s : Scripted) (v c w : TaskValue) (a : Adopts v c w) where
     made = made_grow v.journal w.journal a.journal v.history w.history a.history k t.calls (a.batches k (there h)) (a.entries k (there h)) t.made;
     rest = t.rest;
     fits = t.fits;
-    some = t.some;
   }
 
-  short_theirs : (k : ℕ) → Has k c.ended → IsCutShort s c k → IsCutShort s w k
-  short_theirs k h t = record {
+  forked_theirs : (k : ℕ) → Has k c.ended → IsForkedTask s c k → IsForkedTask s w k
+  forked_theirs k h t = record {
     fork = t.fork;
     there = has_more w.history c.history t.fork a.told_history t.there;
     pid = t.pid;
@@ -105,31 +104,31 @@ module _ (s : Scripted) (v c w : TaskValue) (a : Adopts v c w) where
     made = made_grow c.journal w.journal a.told_journal c.history w.history a.told_history k t.calls (a.told_batches k (there h)) (a.told_entries k (there h)) t.made;
     rest = t.rest;
     fits = t.fits;
-    some = t.some;
   }
 
   -- what a task lacks before it adopts another, it lacks after its fork, too
   pub out_mine : (l : ScriptLine) (ls more : List ScriptLine) (x u : TaskValue) → u.made ≡ x.made + 1 → length ls ≤ length more
       → IsOutOfEntries s ls u v → IsOutOfEntries s (l ∷ more) x w
+  unfolding forked_mine
   out_mine l ls more x u next fewer o = record {
     full = omega (arith, o.full, begins_length a.history);
-    lacks = ⊎_elim (λ m. inl (omega (arith, m, next, fewer, a.made))) (λ b. inr (b.0, in_own b.0 b.1, short_mine b.0 b.1 b.2)) o.lacks;
+    lacks = ⊎_elim (λ m. inl (omega (arith, m, next, fewer, a.made)))
+        (λ b. inr (b.0, in_own b.0 b.1, forked_mine b.0 b.1 b.2, b.3)) o.lacks;
   }
 
-  -- what the child lacks it lacks when it was adopted
-  pub out_theirs : (g : Bool) (ls left : List ScriptLine) (x u d : TaskValue) (pid : Pid) (r : Entered) → Calls x u (Task (Fork pid)) r
-      → r.reply ≡ Child d.number → Starts u d d.number → Begins v.history u.history → Went g s (lines_by pid.0 s.lines) left d c
-      → IsOutOfEntries s (lines_by pid.0 s.lines) d c → IsOutOfEntries s ls x w
-  out_theirs g ls left x u d pid r call_ is_child st more went o = record {
-    full = omega (arith, o.full, begins_length a.told_history);
-    lacks = inr (⊎_elim (λ m. (d.number, in_told d.number is_theirs, cut m))
-        (λ b. (b.0, in_told b.0 (there b.1), short_theirs b.0 b.1 b.2)) o.lacks);
-  } where
+  pub calls_mine : IsOutOfCalls s v → IsOutOfCalls s w
+  unfolding forked_mine
+  calls_mine o = ⊎_elim (λ m. inl (omega (arith, m, a.made))) (λ b. inr (b.0, in_own b.0 b.1, forked_mine b.0 b.1 b.2, b.3)) o
+
+  -- the child of a fork when it was adopted
+  module _ (g : Bool) (left : List ScriptLine) (x u d : TaskValue) (pid : Pid) (r : Entered) (call_ : Calls x u (Task (Fork pid)) r)
+      (is_child : r.reply ≡ Child d.number) (st : Starts u d d.number) (more : Begins v.history u.history)
+      (went : Went g s (lines_by pid.0 s.lines) left d c) where
     is_theirs : Has d.number (c.number ∷ c.ended)
     is_theirs = subst (λ k. Has d.number (k ∷ c.ended)) (sym went.number) here
 
-    cut : c.made < d.made + length (lines_by pid.0 s.lines) → IsCutShort s w d.number
-    cut m = record {
+    abbrev child : IsForkedTask s w d.number
+    child = record {
       fork = next_entry x (Task (Fork pid)) r;
       there = has_more w.history u.history (next_entry x (Task (Fork pid)) r) (begins_trans a.history more)
           (subst (Has (next_entry x (Task (Fork pid)) r)) (sym call_.enters.is) (has_right call_.enters.before here));
@@ -144,5 +143,19 @@ module _ (s : Scripted) (v c w : TaskValue) (a : Adopts v c w) where
       rest = left;
       fits = subst (λ q. FitsTo s d.number q (own went.run) (lines_by pid.0 s.lines) left)
           (let z : d.made + 1 ≡ 1 = omega (arith, st.made) in z) went.fits;
-      some = omega (arith, m, st.made, went.made, fits_length s d.number (d.made + 1) (own went.run) (lines_by pid.0 s.lines) left went.fits);
     }
+
+    -- what the child lacks it lacks when it was adopted
+    pub out_theirs : (ls : List ScriptLine) → IsOutOfEntries s (lines_by pid.0 s.lines) d c → IsOutOfEntries s ls x w
+    unfolding forked_theirs
+    out_theirs ls o = record {
+      full = omega (arith, o.full, begins_length a.told_history);
+      lacks = inr (⊎_elim (λ m. (d.number, in_told d.number is_theirs, child,
+          omega (arith, m, st.made, went.made, fits_length s d.number (d.made + 1) (own went.run) (lines_by pid.0 s.lines) left went.fits)))
+          (λ b. (b.0, in_told b.0 (there b.1), forked_theirs b.0 b.1 b.2, b.3)) o.lacks);
+    }
+
+    pub calls_theirs : IsOutOfCalls s c → IsOutOfCalls s w
+    unfolding forked_theirs
+    calls_theirs o = inr (⊎_elim (λ m. (d.number, in_told d.number is_theirs, child, omega (arith, m, st.made, went.made)))
+        (λ b. (b.0, in_told b.0 (there b.1), forked_theirs b.0 b.1 b.2, b.3)) o)

@@ -8,12 +8,12 @@ use Rattle.legal_spec.specs.Calls.{IsForkOf}
 use Rattle.smack_world.specs.Stepping.{most_entries}
 use Rattle.live_table.specs.Lists.{Has}
 use Rattle.smack_kernel.specs.Histories.{child_of}
-use Rattle.smack_kernel.specs.Tasks.{TaskValue}
+use Rattle.smack_kernel.specs.Tasks.{TaskValue, most_calls}
 use Rattle.task_runs.specs.Scripts.{Scripted, lines_by}
 use Rattle.task_runs.specs.Deeds.{Deed, Made, FitsTo}
 
--- the calls of number k are those of the first lines of a forked script task, and some of its lines have no call
-pub record IsCutShort (s : Scripted) (w : TaskValue) (k : ℕ) : Type 0 where
+-- number k is that of a forked script task, and its calls are those of the first lines of this task
+pub record IsForkedTask (s : Scripted) (w : TaskValue) (k : ℕ) : Type 0 where
   pub fork : Entry
   pub there : Has fork w.history
   pub pid : ℕ
@@ -22,17 +22,24 @@ pub record IsCutShort (s : Scripted) (w : TaskValue) (k : ℕ) : Type 0 where
   pub made : Made w.journal w.history k calls
   pub rest : List ScriptLine
   pub fits : FitsTo s k 1 calls (lines_by pid s.lines) rest
-  pub some : 0 < length rest
+
+-- such a task is among those that the task adopted, and this holds of it
+abbrev pub OfEnded : (s : Scripted) → (w : TaskValue) → ((k : ℕ) → IsForkedTask s w k → Type 0) → Type 0
+OfEnded s w P = (k : ℕ) × Has k w.ended × (f : IsForkedTask s w k) × P k f
 
 -- A task that was v and is w has made no call for some of these lines, or a task that it adopted has made none for some
 -- of its own.
 abbrev pub LacksCalls : Scripted → List ScriptLine → TaskValue → TaskValue → Type 0
-LacksCalls s ls v w = (w.made < v.made + length ls) ⊎ ((k : ℕ) × Has k w.ended × IsCutShort s w k)
+LacksCalls s ls v w = (w.made < v.made + length ls) ⊎ OfEnded s w (λ k f. 0 < length f.rest)
 
 -- the history has all entries that it may have, and some lines have no call
 pub record IsOutOfEntries (s : Scripted) (ls : List ScriptLine) (v w : TaskValue) : Type 0 where
   pub full : most_entries ≤ length w.history
   pub lacks : LacksCalls s ls v w
+
+-- a task, or one that it adopted, has made all calls that it may make
+abbrev pub IsOutOfCalls : Scripted → TaskValue → Type 0
+IsOutOfCalls s w = (most_calls ≤ w.made) ⊎ OfEnded s w (λ k f. most_calls ≤ length f.calls)
 
 -- a fork of the task, or of one that it adopted, made no task
 pub record HasForkedNone (w : TaskValue) : Type 0 where
