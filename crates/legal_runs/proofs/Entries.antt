@@ -1,5 +1,5 @@
 -- A history has fewer entries than its script has lines where a line has no call; and no task has more calls than lines.
-use Rattle.std.proofs.Common.{◌≡◌, ℕ, ◌+◌, ◌<◌, ◌≤◌, List, [], ◌∷◌, length, Bool, true, sym, refl, ap, ◌∙◌, subst, arith, ⊎_elim, inl, inr}
+use Rattle.std.proofs.Common.{◌≡◌, ℕ, ◌<◌, ◌≤◌, List, [], ◌∷◌, length, Bool, true, sym, refl, ap, subst, arith, ⊎_elim, inl, inr}
 use Rattle.atomic_table.specs.Seated.{TableId}
 use Rattle.world_spec.specs.declared.Entry.{Entry}
 use Rattle.script_spec.specs.Lines.{ScriptLine}
@@ -8,7 +8,7 @@ use Rattle.live_table.specs.Lists.{Has, here, there}
 use Rattle.smack_kernel.specs.Tasks.{TaskValue, first_task, most_calls}
 use Rattle.smack_kernel.specs.Answers.{ClosedValue, Closes}
 use Rattle.task_runs.specs.Scripts.{Scripted, lines_by}
-use Rattle.task_runs.specs.Deeds.{entries_of, Deed, entries_in, FitsTo}
+use Rattle.task_runs.specs.Deeds.{entries_of, Deed, entries_in}
 use Rattle.task_runs.specs.Runs.{own, numbers, asked_of, Distinct, Went}
 use Rattle.task_runs.specs.Stops.{IsForkedTask, LacksCalls, IsOutOfCalls}
 use Rattle.task_runs.proofs.Stops.{fits_length}
@@ -17,7 +17,7 @@ use Rattle.legal_runs.proofs.Sorting.{in_order}
 use Rattle.legal_runs.proofs.Counts.{length_kinds}
 use Rattle.legal_runs.proofs.Legal.{life, named, entry_task}
 use Rattle.legal_runs.proofs.Numbers.{pid_of_life, one_number}
-use Rattle.legal_runs.proofs.Sums.{sum_of, under, all_under, under_distinct}
+use Rattle.legal_runs.proofs.Sums.{sum_of, all_under, under_distinct}
 
 entries_few : (ds : List Deed) → length (entries_in ds) ≤ length ds
 entries_few ds = omega (arith, length_kinds ds)
@@ -55,9 +55,9 @@ module _ (full : Bool) (s : Scripted) (left : List ScriptLine) (done : full ≡ 
     pids = pid ∷ T.pids;
     distinct = (
       (λ i.
-      let b = T.of pid i in
-      let same = one_number full s w.journal h (in_order (asked_of g.run)) c.steps c.legal k b.0 (record { 0 = pid }) is b.2 in
-      new (subst (λ n. Has n ks) (sym same) b.1)),
+          let b = T.of pid i in
+          let same = one_number full s w.journal h (in_order (asked_of g.run)) c.steps c.legal k b.0 (record { 0 = pid }) is b.2 in
+          new (subst (λ n. Has n ks) (sym same) b.1)),
       T.distinct,
     );
     of = of;
@@ -78,26 +78,39 @@ module _ (full : Bool) (s : Scripted) (left : List ScriptLine) (done : full ≡ 
   tally (k ∷ ks) d within =
       let L = life full s left done t w g labels closed c k (within k here) in
       tally_more k L.pid ks (named full s left done t w g labels closed c k L)
-      (omega (arith, ap (λ (es : List Entry). length es) L.entries, entries_few L.calls,
-      fits_length s k 1 L.calls (lines_by L.pid s.lines) L.rest L.fits))
+      (omega (
+        arith,
+        ap (λ (es : List Entry). length es) L.entries,
+        entries_few L.calls,
+        fits_length s k 1 L.calls (lines_by L.pid s.lines) L.rest L.fits,
+      ))
       (λ p is. pid_of_life full s w.journal h (in_order (asked_of g.run)) c.steps c.legal k (record { 0 = p }) L is)
       d.0 (tally ks d.1 (λ n i. within n (there i)))
 
   short_of : LacksCalls s (lines_by 0 s.lines) (first_task t) w → (k : ℕ) × Has k all × IsShort k
   short_of lacks = ⊎_elim
-      (λ m. (0, here, record {
-        pid = 0;
-        is = inl (refl, refl);
-        fewer = omega (arith, m, g.made, ap (λ (es : List Entry). length es) g.own_entries, entries_few (own g.run));
-      }))
+      (λ m. (
+        0,
+        here,
+        record {
+          pid = 0;
+          is = inl (refl, refl);
+          fewer = omega (arith, m, g.made, ap (λ (es : List Entry). length es) g.own_entries, entries_few (own g.run));
+        },
+      ))
       (λ b. (b.0, there (subst (Has b.0) g.ended b.1), cut b.0 b.2 b.3)) lacks
     where
       cut : (k : ℕ) → (q : IsForkedTask s w k) → 0 < length q.rest → IsShort k
       cut k q some = let st = has_stands h q.fork q.there in record {
         pid = q.pid;
         is = inr (st.0, q.fork, st.1, q.is);
-        fewer = omega (arith, ap (λ (es : List Entry). length es) q.made.entries, entries_few q.calls, some,
-            fits_length s k 1 q.calls (lines_by q.pid s.lines) q.rest q.fits);
+        fewer = omega (
+          arith,
+          ap (λ (es : List Entry). length es) q.made.entries,
+          entries_few q.calls,
+          some,
+          fits_length s k 1 q.calls (lines_by q.pid s.lines) q.rest q.fits,
+        );
       }
 
   pub fewer_entries : LacksCalls s (lines_by 0 s.lines) (first_task t) w → length h < length s.lines
@@ -119,4 +132,4 @@ module _ (full : Bool) (s : Scripted) (left : List ScriptLine) (done : full ≡ 
   calls_within out = ⊎_elim
       (λ m. omega (arith, m, g.made, fits_length s 0 1 (own g.run) (lines_by 0 s.lines) left g.fits, lines_within 0))
       (λ b. let f = b.2 in
-          omega (arith, b.3, fits_length s b.0 1 f.calls (lines_by f.pid s.lines) f.rest f.fits, lines_within f.pid)) out
+      omega (arith, b.3, fits_length s b.0 1 f.calls (lines_by f.pid s.lines) f.rest f.fits, lines_within f.pid)) out

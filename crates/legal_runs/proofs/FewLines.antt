@@ -1,5 +1,5 @@
 -- A script has as many calls as it may have lines, or fewer.
-use Rattle.std.proofs.Common.{◌≡◌, ℕ, ◌+◌, ◌-◌, ◌<◌, ◌≤◌, ◌==◌, Bool, true, false, if◌then◌else◌, List, [], ◌∷◌, ◌++◌, length, sym, refl, ap, subst, arith, length-append, Option, Some, None, Result, Ok, Err}
+use Rattle.std.proofs.Common.{◌≡◌, ℕ, ◌+◌, ◌-◌, ◌<◌, ◌≤◌, ◌==◌, Bool, true, false, if◌then◌else◌, List, [], ◌∷◌, ◌++◌, length, refl, subst, arith, length-append, Option, Some, None, Result, Ok}
 use Rattle.std.specs.Prelude.{nat_lt}
 use Rattle.std.proofs.lemmas.Bool.{ltb-false}
 use Rattle.text_spec.specs.Texts.{TextLine, lines_from}
@@ -7,7 +7,7 @@ use Rattle.script_spec.specs.declared.What.TheVariants.{Bytes, Lines}
 use Rattle.script_spec.specs.declared.ScriptFault.{ScriptFault}
 use Rattle.script_spec.specs.declared.ScriptFault.TheVariants.{TooLarge}
 use Rattle.script_spec.specs.Lines.{ScriptLine}
-use Rattle.script_spec.specs.Grammar.{Item, item_of, items, is_skipped, text_count, spaced_words, item_fault, call_of, calls_of, first_of, fault_if, unless_fault, lines_fault, script_of, most_bytes, most_lines, parse}
+use Rattle.script_spec.specs.Grammar.{item_of, items, is_skipped, text_count, spaced_words, item_fault, call_of, calls_of, first_of, fault_if, unless_fault, lines_fault, script_of, most_bytes, most_lines, parse}
 use Rattle.replay_spec.proofs.KnownLabels.{not_refused}
 
 same_lines : (a b : List ScriptLine) → ◌≡◌ {A = Result (List ScriptLine) ScriptFault} (Ok a) (Ok b) → a ≡ b

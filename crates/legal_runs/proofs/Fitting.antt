@@ -1,5 +1,5 @@
 -- The record of a script's tasks has each of its lines as one call.
-use Rattle.std.proofs.Common.{◌≡◌, ℕ, zero, suc, ◌+◌, ◌<◌, ◌==◌, ◌||◌, List, [], ◌∷◌, ◌++◌, length, true, false, sym, refl, ap, ◌∙◌, subst, arith, append_assoc, ⊎_elim, inl, inr, Option, Some}
+use Rattle.std.proofs.Common.{◌≡◌, ℕ, zero, suc, ◌+◌, ◌<◌, List, [], ◌∷◌, ◌++◌, length, true, sym, refl, ap, ◌∙◌, subst, arith, append_assoc, inl, inr, Option, Some}
 use Rattle.atomic_table.specs.Seated.{TableId}
 use Rattle.smack_base.specs.declared.ids.Pid.{Pid}
 use Rattle.world_spec.specs.declared.Call.{Call}
@@ -7,7 +7,6 @@ use Rattle.world_spec.specs.declared.Call.TheVariants.{Task}
 use Rattle.world_spec.specs.declared.TaskCall.TheVariants.{Fork}
 use Rattle.world_spec.specs.declared.Reply.TheVariants.{Child}
 use Rattle.world_spec.specs.declared.Entry.{Entry}
-use Rattle.world_spec.specs.Worlds.{world_first}
 use Rattle.script_spec.specs.declared.Verb.{Verb}
 use Rattle.script_spec.specs.declared.Verb.TheVariants.{Write, Ask as AskVerb, Wait as WaitVerb, Task as TaskVerbOf}
 use Rattle.script_spec.specs.declared.TaskVerb.TheVariants.{Fork as ForkVerb}
@@ -23,12 +22,11 @@ use Rattle.replay_spec.specs.Plain.{IsNameTable}
 use Rattle.replayed_records.proofs.InStep.{next_pid}
 use Rattle.plain_records.proofs.GoodLines.{AreGoodLines}
 use Rattle.plain_records.proofs.Tasks.{names_more, names_behind}
-use Rattle.legal_spec.specs.Calls.{Stands, IsForkOf, IsNumberOf, call_count}
+use Rattle.legal_spec.specs.Calls.{Stands, IsNumberOf, call_count}
 use Rattle.legal_spec.specs.Fits.{IsRecorded, batch as batch_of, entry as entry_of, asked as asked_line, FitsScript}
 use Rattle.legal_spec.specs.Lines.{IsAskedOfLine}
 use Rattle.live_table.specs.Lists.{Has, here, there}
 use Rattle.live_table.proofs.Lists.{has_left, has_right}
-use Rattle.smack_kernel.specs.Histories.{child_of}
 use Rattle.smack_kernel.specs.Tasks.{TaskValue, first_task}
 use Rattle.smack_kernel.specs.Answers.{ClosedValue, Closes}
 use Rattle.task_runs.specs.Scripts.{scripted, lines_by}
@@ -37,7 +35,6 @@ use Rattle.task_runs.specs.Runs.{asked_of, Went}
 use Rattle.legal_runs.proofs.Lists.{stands_has, has_stands, has_those, those_has}
 use Rattle.legal_runs.proofs.Deeds.{lines_of, at_of}
 use Rattle.legal_runs.proofs.Lives.{Life}
-use Rattle.legal_runs.proofs.Histories.{child_above, one_child, same_stand}
 use Rattle.legal_runs.proofs.Sorting.{in_order}
 use Rattle.legal_runs.proofs.Counts.{count_is, count_length}
 use Rattle.legal_runs.proofs.Legal.{record_of, life, numbers_in}

@@ -1,21 +1,19 @@
 -- Each fork of a script's run makes its task, however far the run came.
-use Rattle.std.proofs.Common.{◌≡◌, ℕ, ◌+◌, ◌<◌, ◌≤◌, Bool, true, false, nat_le, List, [], ◌∷◌, ◌++◌, length, sym, refl, ap, ◌∙◌, subst, arith, length-append, Option, Some, None, ⊎_elim}
+use Rattle.std.proofs.Common.{◌≡◌, ℕ, ◌+◌, ◌<◌, Bool, true, false, nat_le, List, [], ◌∷◌, ◌++◌, length, sym, refl, ap, ◌∙◌, subst, arith, length-append, Some, None, ⊎_elim}
 use Rattle.std.proofs.lemmas.Bool.{cases_Bool, leb-true}
 use Rattle.atomic_table.specs.Seated.{TableId}
 use Rattle.smack_base.specs.declared.ids.Pid.{Pid}
 use Rattle.rules_spec.specs.declared.Batch.{Batch}
 use Rattle.world_spec.specs.declared.Call.{Call}
 use Rattle.world_spec.specs.declared.Call.TheVariants.{Task}
-use Rattle.world_spec.specs.declared.TaskCall.TheVariants.{Fork, Exit}
+use Rattle.world_spec.specs.declared.TaskCall.TheVariants.{Fork}
 use Rattle.world_spec.specs.declared.Entry.{Entry}
-use Rattle.world_spec.specs.declared.Reply.TheVariants.{Child}
-use Rattle.world_spec.specs.Worlds.{World, TaskRow, world_first, was_made, is_live, most_tasks}
+use Rattle.world_spec.specs.Worlds.{TaskRow, world_first, was_made, is_live, most_tasks}
 use Rattle.world_spec.specs.Steps.{step}
 use Rattle.world_spec.specs.Replays.{version_of}
 use Rattle.script_spec.specs.Lines.{ScriptLine, table_of}
 use Rattle.script_spec.specs.Tasks.{has_exit, task_names}
 use Rattle.record_spec.specs.declared.AskedLine.{AskedLine}
-use Rattle.replay_spec.specs.Calls.{call_of_line}
 use Rattle.replay_spec.specs.Plain.{IsNameTable}
 use Rattle.plain_records.proofs.GoodLines.{IsGoodLine, AreGoodLines}
 use Rattle.legal_replays.proofs.Children.{fork_replies}

@@ -1,5 +1,5 @@
 -- Where the line of a call stands in its script, and what stands before it.
-use Rattle.std.proofs.Common.{◌≡◌, ◌≢◌, ℕ, zero, suc, ◌+◌, ◌<◌, ◌≤◌, ◌⊎◌, ◌==◌, ◌&&◌, ◌||◌, Bool, true, false, List, [], ◌∷◌, ◌++◌, length, sym, refl, ap, ◌∙◌, subst, arith, append_assoc, append-nil, length-append, ⊎_elim, inl, inr, eq-eqb, ne_eqb, Option, Some, None, Result, Ok, Err}
+use Rattle.std.proofs.Common.{◌≡◌, ◌≢◌, ℕ, ◌+◌, ◌≤◌, ◌⊎◌, ◌==◌, ◌&&◌, ◌||◌, Bool, true, false, List, [], ◌∷◌, ◌++◌, length, sym, refl, ap, ◌∙◌, subst, arith, append_assoc, append-nil, length-append, ⊎_elim, inl, inr, eq-eqb, ne_eqb, Option, Some, None, Result, Ok, Err}
 use mathlib.Core.Logic.{dite}
 use native.Mathlib.Decide.{ℕ_discrete}
 use Rattle.std.specs.Prelude.{codes}
@@ -13,7 +13,6 @@ use Rattle.file_spec.specs.Files.{compiled}
 use Rattle.world_spec.specs.declared.TaskCall.{TaskCall}
 use Rattle.world_spec.specs.declared.TaskCall.TheVariants.{Fork, Exit}
 use Rattle.world_spec.specs.declared.TreeCall.{TreeCall}
-use Rattle.world_spec.specs.declared.Call.{Call}
 use Rattle.world_spec.specs.declared.Call.TheVariants.{Task, Tree}
 use Rattle.script_spec.specs.declared.Verb.{Verb}
 use Rattle.script_spec.specs.declared.Verb.TheVariants.{Write, Ask, Wait, Task as TaskVerbOf, Tree as TreeVerbOf}
@@ -31,7 +30,6 @@ use Rattle.plain_records.proofs.GoodLines.{IsGoodLine, AreGoodLines}
 use Rattle.plain_records.proofs.Tasks.{names_behind}
 use Rattle.legal_replays.proofs.ForkLines.{fork_line}
 use Rattle.live_table.specs.Lists.{Has, here, there}
-use Rattle.live_table.proofs.Lists.{has_right}
 use Rattle.task_runs.specs.Scripts.{Scripted, lines_by}
 use Rattle.task_runs.specs.Deeds.{Deed, Fits, FitsTo}
 
@@ -158,8 +156,12 @@ names_before : (a : List ScriptLine) (x : ScriptLine) (more : List ScriptLine)
     → length (task_names (a ++ x ∷ [])) ≤ length (task_names (a ++ x ∷ more))
 names_before a x more =
     let rest = names_behind (a ++ x ∷ []) more in
-    omega (arith, ap (λ (ls : List ScriptLine). length (task_names ls)) (sym (append_assoc a (x ∷ []) more)),
-    ap (λ (ns : List (List ℕ)). length ns) rest.1, length-append (task_names (a ++ x ∷ [])) rest.0)
+    omega (
+      arith,
+      ap (λ (ls : List ScriptLine). length (task_names ls)) (sym (append_assoc a (x ∷ []) more)),
+      ap (λ (ns : List (List ℕ)). length ns) rest.1,
+      length-append (task_names (a ++ x ∷ [])) rest.0,
+    )
 
 -- two lines that fork one pid are one
 pub one_fork_line : (labels names : List (List ℕ)) (lines : List ScriptLine) (pid : Pid) → IsNameTable names → names ≡ task_names lines

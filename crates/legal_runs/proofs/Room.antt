@@ -1,5 +1,5 @@
 -- The tasks of a script had room for the call of each of its lines, however far they came.
-use Rattle.std.proofs.Common.{◌≡◌, ◌<◌, List, [], true, false, Bool, not, refl, arith}
+use Rattle.std.proofs.Common.{◌≡◌, [], true, false, Bool, not, refl, arith}
 use Rattle.script_spec.specs.Lines.{table_of}
 use Rattle.plain_records.proofs.GoodLines.{good_lines}
 use Rattle.plain_records.proofs.Tasks.{names_are_a_table}
@@ -17,11 +17,11 @@ pub runs_have_room : RunsHaveRoom
 runs_have_room bytes lines is stop table w asked ran closed c =
     let done : not stop ≡ true → ran.left ≡ [] = λ e. ran.on (on_false stop e) in (
       (λ out.
-      let fewer = fewer_entries (not stop) (scripted lines) ran.left done table w ran.went (table_of lines) closed c out.lacks in
-      absurd (omega (arith, fewer, out.full, few_lines bytes lines is))),
+          let fewer = fewer_entries (not stop) (scripted lines) ran.left done table w ran.went (table_of lines) closed c out.lacks in
+          absurd (omega (arith, fewer, out.full, few_lines bytes lines is))),
       (λ out.
-      let calls = calls_within (not stop) (scripted lines) ran.left done table w ran.went (table_of lines) closed c out in
-      absurd (omega (arith, calls, few_lines bytes lines is))),
+          let calls = calls_within (not stop) (scripted lines) ran.left done table w ran.went (table_of lines) closed c out in
+          absurd (omega (arith, calls, few_lines bytes lines is))),
       none_forked_none lines (good_lines bytes lines is) (names_are_a_table bytes lines is) (not stop) ran.left done table w ran.went
           (table_of lines) closed c,
     )

@@ -1,10 +1,6 @@
 -- The tasks of the world before an entry: which are live, and which pids they have.
-use Rattle.std.proofs.Common.{◌≡◌, ◌≢◌, ℕ, zero, suc, ◌+◌, ◌<◌, ◌≤◌, ◌⊎◌, ◌==◌, ◌||◌, Bool, true, false, not, nat_le, List, [], ◌∷◌, ◌++◌, length, take, fold, sym, refl, ap, ◌∙◌, subst, arith, Option, Some, None, ⊎_elim, inl, inr, eq-eqb}
-use mathlib.Core.Logic.{dite}
-use native.Mathlib.Decide.{ℕ_discrete}
-use Rattle.std.specs.List.{list_any, slice_get}
+use Rattle.std.proofs.Common.{◌≡◌, ◌≢◌, ℕ, zero, suc, ◌<◌, ◌⊎◌, ◌||◌, Bool, true, false, not, nat_le, List, [], ◌∷◌, ◌++◌, length, take, fold, sym, refl, ap, ◌∙◌, subst, arith, Option, Some, None, ⊎_elim, inl, inr, eq-eqb}
 use Rattle.std.proofs.lemmas.Bool.{eqb-true}
-use Rattle.std.proofs.lemmas.List.Folds.{list_any-append}
 use Rattle.smack_base.specs.declared.ids.Pid.{Pid}
 use Rattle.rules_spec.specs.declared.Batch.{Batch}
 use Rattle.rules_spec.specs.declared.Verdict.{Verdict}
@@ -18,8 +14,7 @@ use Rattle.world_spec.specs.declared.Call.TheVariants.{Task, Tree}
 use Rattle.world_spec.specs.declared.Reply.{Reply}
 use Rattle.world_spec.specs.declared.Reply.TheVariants.{Child}
 use Rattle.world_spec.specs.declared.Entry.{Entry}
-use Rattle.world_spec.specs.Worlds.{World, TaskRow, is_of_pid, was_made, is_live_row, is_live, live_task, changed_at, creds_of, task_begun, most_tasks}
-use Rattle.world_spec.specs.Questions.{asks}
+use Rattle.world_spec.specs.Worlds.{World, TaskRow, is_of_pid, was_made, is_live, live_task, changed_at, creds_of, task_begun, most_tasks}
 use Rattle.world_spec.specs.Steps.{Effect, signalled, effect, stepped, went, verdict_of, step}
 use Rattle.world_spec.specs.Replays.{AreSteps, version_of, after_entry}
 use Rattle.legal_replays.proofs.Children.{fork_number}

@@ -1,5 +1,5 @@
 -- The end of a run: its first task may close the kernel, and the record is legal for the script and plain.
-use Rattle.std.proofs.Common.{◌≡◌, ℕ, Bool, false, List, [], sym, subst}
+use Rattle.std.proofs.Common.{◌≡◌, ℕ, Bool, false, List, [], Option, Some, is_some, IfSome, sym, subst}
 use Rattle.atomic_table.specs.Seated.{TableId}
 use Rattle.script_spec.specs.Lines.{ScriptLine, table_of}
 use Rattle.record_spec.specs.declared.AskedLine.{AskedLine}
@@ -10,11 +10,16 @@ use Rattle.smack_kernel.specs.Tasks.{TaskValue, first_task}
 use Rattle.smack_kernel.specs.Answers.{IsWhole, ClosedValue, Closes}
 use Rattle.task_runs.specs.Scripts.{scripted, lines_by}
 use Rattle.task_runs.specs.Runs.{Ran}
+use Rattle.task_runs.specs.Stops.{IsOutOfEntries, IsOutOfCalls, HasForkedNone}
 use Rattle.legal_runs.specs.Laws.{FirstRan, run_record}
 use Rattle.legal_runs.proofs.Whole.{runs_are_whole}
 use Rattle.legal_runs.proofs.LegalFor.{runs_are_legal_for_scripts}
 use Rattle.legal_runs.proofs.Plain.{runs_are_plain}
+use Rattle.legal_runs.proofs.Room.{runs_have_room}
 use Rattle.script_run.specs.Closings.{IsScript, HasRun}
+use Rattle.script_run.specs.Stops.{IsCause, IsStopOfScript}
+use Rattle.script_run.specs.declared.making.Stop.{Stop}
+use Rattle.script_run.specs.declared.making.Stop.TheVariants as stops
 
 module _ (lines : List ScriptLine) (read : IsScript lines) where
   -- the first task of a kernel may close it, however far it came
@@ -39,6 +44,28 @@ module _ (lines : List ScriptLine) (read : IsScript lines) where
     -- it is plain
     pub is_plain : IsPlain report
     is_plain = as_closed IsPlain (runs_are_plain read.0 lines read.1 has.table has.task asked has.ran closed has.closes)
+
+-- a worker that stopped, where its task closed the kernel
+pub stop_of_script : (lines : List ScriptLine) (read : IsScript lines) (stop : Option Stop) (why : Stop) (table : TableId) (v w : TaskValue)
+    (asked : List AskedLine) (labels : List (List ℕ)) (closed : ClosedValue) → v ≡ first_task table
+    → Ran (is_some stop) (scripted lines) (lines_by 0 lines) [] v w [] asked
+    → IfSome stop (IsCause (scripted lines) (lines_by 0 lines) v w) → stop ≡ Some why → labels ≡ table_of lines → Closes labels w closed
+    → IsStopOfScript why
+stop_of_script lines read stop why table v w asked labels closed first ran cause is named closes =
+    by why (subst (λ (o : Option Stop). IfSome o (IsCause (scripted lines) (lines_by 0 lines) (first_task table) w)) is
+    (subst (λ (u : TaskValue). IfSome stop (IsCause (scripted lines) (lines_by 0 lines) u w)) first cause))
+    (runs_have_room read.0 lines read.1 (is_some stop) table w asked
+    (subst (λ (u : TaskValue). Ran (is_some stop) (scripted lines) (lines_by 0 lines) [] u w [] asked) first ran) closed
+    (subst (λ ls. Closes ls w closed) named closes))
+  where
+    by : (x : Stop) → IsCause (scripted lines) (lines_by 0 lines) (first_task table) w x
+        → (IsOutOfEntries (scripted lines) (lines_by 0 lines) (first_task table) w → ⊥) × (IsOutOfCalls (scripted lines) w → ⊥)
+        × (HasForkedNone w → ⊥) → IsStopOfScript x
+    by stops.Memory c room = tt
+    by stops.TrailFull c room = room.0 c
+    by stops.NoChild c room = room.2 c
+    by stops.SeqFull c room = room.1 c
+    by stops.Unscripted c room = tt
 
 -- a worker that did not stop ran all lines
 pub has_run : (lines : List ScriptLine) (stop : Bool) (table : TableId) (v w : TaskValue) (asked : List AskedLine) (labels : List (List ℕ))

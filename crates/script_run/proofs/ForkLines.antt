@@ -1,34 +1,25 @@
 -- No line of a task stands before the line that forks it.
-use Rattle.std.proofs.Common.{◌≡◌, ℕ, zero, suc, ◌+◌, ◌<◌, ⊎_elim, List, [], ◌∷◌, ◌++◌, length, refl, sym, ap, subst, ◌∙◌, arith, append_assoc, Some, None, Ok}
-use Rattle.std.specs.Prelude.{take, codes, Option}
-use Rattle.std.specs.List.{flat_map}
-use Rattle.std.proofs.lemmas.Grind.{flat_map-append}
+use Rattle.std.proofs.Common.{◌≡◌, ℕ, zero, suc, ◌+◌, ◌<◌, ⊎_elim, List, [], ◌∷◌, ◌++◌, length, refl, sym, ap, subst, ◌∙◌, arith, append_assoc, Some, Ok}
+use Rattle.std.specs.Prelude.{take, Option}
 use Rattle.smack_base.specs.declared.ids.Pid.{Pid}
 use Rattle.world_spec.specs.declared.TaskCall.TheVariants.{Fork}
 use Rattle.world_spec.specs.declared.Call.TheVariants.{Task}
-use Rattle.script_spec.specs.Lines.{ScriptLine, word_in, table_of}
-use Rattle.script_spec.specs.Tasks.{task_names, forked_name, change_by, change_of}
+use Rattle.script_spec.specs.Lines.{ScriptLine, table_of}
+use Rattle.script_spec.specs.Tasks.{task_names}
 use Rattle.script_spec.specs.Grammar.{parse}
 use Rattle.replay_spec.specs.Calls.{call_of_line}
 use Rattle.replay_spec.specs.Plain.{IsNameTable}
 use Rattle.plain_records.proofs.GoodLines.{IsGoodLine, AreGoodLines, good_lines}
 use Rattle.plain_records.proofs.Tasks.{names_are_a_table}
-use Rattle.replayed_records.proofs.InStep.{next_pid}
-use Rattle.legal_replays.proofs.ForkLines.{fork_line}
 use Rattle.legal_replays.proofs.Growth.{tasks_more}
 use Rattle.legal_spec.specs.Calls.{Stands}
 use Rattle.live_table.specs.Lists.{Has, here, there}
 use Rattle.live_table.proofs.Lists.{has_either, those_none}
 use Rattle.task_runs.specs.Scripts.{scripted, lines_by, ForksFirst}
+use Rattle.legal_runs.proofs.Places.{new_pid}
 
 same_line : (x y : ScriptLine) → ◌≡◌ {A = Option ScriptLine} (Some x) (Some y) → x ≡ y
 same_line x y is = cc
-
-same_pid : (x y : Pid) → ◌≡◌ {A = Option Pid} (Some x) (Some y) → x.0 ≡ y.0
-same_pid x y is = ap (λ (o : Option Pid). pid_or_zero o) is where
-  pid_or_zero : Option Pid → ℕ
-  pid_or_zero None = 0
-  pid_or_zero (Some p) = p.0
 
 -- a line of one line is this line
 its_task : (many : ℕ) (x l : ScriptLine) → l.task < many → Has x (l ∷ []) → x.task < many
@@ -40,19 +31,6 @@ abbrev AreNamed : List ScriptLine → ℕ → Type 0
 AreNamed ls many = (x : ScriptLine) → Has x ls → x.task < many
 
 module _ (labels names : List (List ℕ)) (table : IsNameTable names) where
-  -- the pid of a task that a line forks is the number of the tasks above
-  new_pid : (above ls : List ScriptLine) (l : ScriptLine) (pid : Pid) → names ≡ task_names (above ++ l ∷ ls)
-      → call_of_line labels names l ≡ Some (Task (Fork pid)) → pid.0 ≡ length (task_names above)
-  new_pid above ls l pid whole forks =
-      let f : ScriptLine → List (List ℕ) = λ x. forked_name (change_of x) in
-      let line = fork_line labels names l pid forks in
-      let one : forked_name (change_of l) ≡ word_in 1 l ∷ [] = ap (λ v. forked_name (change_by v l)) line.0 in
-      let cut : flat_map f (above ++ l ∷ ls) ≡ flat_map f above ++ (word_in 1 l ∷ flat_map f ls) =
-      flat_map-append f above (l ∷ ls) ∙ ap (λ ns. flat_map f above ++ (ns ++ flat_map f ls)) one in
-      let split : names ≡ task_names above ++ (word_in 1 l ∷ flat_map f ls) = whole ∙ ap (λ ns. codes "init" ∷ ns) cut in
-      same_pid pid (record { 0 = length (task_names above) })
-      (sym line.1 ∙ next_pid names (task_names above) (word_in 1 l) (flat_map f ls) split table)
-
   named_more : (above : List ScriptLine) (l : ScriptLine) → IsGoodLine above l → AreNamed above (length (task_names above))
       → AreNamed (above ++ l ∷ []) (length (task_names (above ++ l ∷ [])))
   named_more above l good named x has = ⊎_elim
@@ -74,7 +52,7 @@ module _ (labels names : List (List ℕ)) (table : IsNameTable names) where
   before_fork above (x ∷ ls) good whole named zero l pid at forks =
       let same = same_line x l at in
       subst (AreNamed (above ++ x ∷ []))
-      (sym (new_pid above ls x pid whole (ap (λ y. call_of_line labels names y) same ∙ forks)))
+      (sym (new_pid labels names above ls x pid table whole (ap (λ y. call_of_line labels names y) same ∙ forks)).0)
       (up_to above x good.0 named)
   before_fork above (x ∷ ls) good whole named (suc n) l pid at forks =
       subst (λ (xs : List ScriptLine). AreNamed xs pid.0) (append_assoc above (x ∷ []) (take (suc n) ls))

@@ -1,3 +1,4 @@
 pub mod Working
 pub mod ForkLines
 pub mod Closing
+pub mod Stopping

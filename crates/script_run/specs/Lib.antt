@@ -1,3 +1,4 @@
 pub mod Stages
 pub mod Shared
 pub mod Closings
+pub mod Stops

@@ -1,4 +1,4 @@
-ghost use Rattle.std.specs.Prelude.{◌≡◌, ◌≤◌, ◌<◌, ◌+◌, [], ◌∷◌, ◌++◌, ℕ, List, length, Some, is_some};
+ghost use Rattle.std.specs.Prelude.{◌≡◌, ◌≤◌, ◌<◌, ◌+◌, [], ◌∷◌, ◌++◌, ℕ, List, length, Some, is_some, IfSome};
 ghost use Rattle.std.specs.Bool.{OnFalse};
 ghost use Rattle.script_spec.specs.Lines.{ScriptLine, word_in, verb_in};
 ghost use Rattle.script_spec.specs.declared.Verb.TheVariants as verbs;
@@ -7,6 +7,8 @@ ghost use Rattle.smack_kernel.specs.Tasks.{most_calls};
 ghost use Rattle.task_runs.specs.Runs.{Ran};
 ghost use Rattle.script_acts.specs.Acts.{IsAct};
 ghost use Rattle.script_run.specs.Stages.{script_of};
+ghost use Rattle.script_run.specs.Stops.{IsCause};
+ghost use Rattle.script_run.specs.declared.making.Stop.TheVariants as stops;
 ghost use Rattle.script_acts.specs.declared.acts.Act.TheVariants as acts;
 
 use crate::stage::{ScriptLines, Stage};
@@ -32,14 +34,17 @@ pub enum Stop {
     TrailFull,
     /// A fork made no task.
     NoChild,
-    /// A line that stands in no script: its words are not of their kinds, it waits for none of its
-    /// task's children, or its task has made 1,048,575 calls.
+    /// A task has made 1,048,575 calls.
+    SeqFull,
+    /// A line that stands in no script: its words are not of their kinds, or it waits for none of its
+    /// task's children.
     Unscripted,
 }
 
 /// One more line that is neither a batch nor an object call.
 pub fn note(asked: &mut AskedLines, line: AskedLine) -> Option<Stop>
-    ensures { OnFalse (is_some result) (asked.new ≡ asked.old ++ line ∷ []) }
+    ensures line { OnFalse (is_some result) (asked.new ≡ asked.old ++ line ∷ []) }
+    ensures stop { IfSome result (λ stop. stop ≡ stops.Memory) }
 {
     match asked.push(line) {
         Ok(()) => None,
@@ -60,7 +65,8 @@ fn ask_line<S: ScriptLines, L: Ledger>(
     requires table { task.old.table ≡ stage.kernel.now.table }
     requires top { task.old.version ≤ length task.old.journal }
     requires act { IsAct stage.kernel.now.labels stage.names.now (call_seen line.now) (acts.Ask question.0 question.1 question.2) }
-    ensures { (ls : List ScriptLine) → Ran (is_some result) (script_of S.told stage.entry) (call_seen line.now ∷ ls) ls task.old task.new asked.old asked.new }
+    ensures ran { (ls : List ScriptLine) → Ran (is_some result) (script_of S.told stage.entry) (call_seen line.now ∷ ls) ls task.old task.new asked.old asked.new }
+    ensures cause { (ls : List ScriptLine) → IfSome result (IsCause (script_of S.told stage.entry) (call_seen line.now ∷ ls) task.old task.new) }
 {
     let (s, o, m) = question;
     let number = task.number();
@@ -75,7 +81,7 @@ fn ask_line<S: ScriptLines, L: Ledger>(
                 what: AskedWhat::Ask(verdict),
             },
         ),
-        Ok(Asked::SeqFull) => Some(Stop::Unscripted),
+        Ok(Asked::SeqFull) => Some(Stop::SeqFull),
         Err(_) => Some(Stop::Memory),
     }
 }
@@ -88,7 +94,8 @@ fn refuse(
     call: (u16, u32, u32),
     fault: Refusal,
 ) -> Option<Stop>
-    ensures { OnFalse (is_some result) (asked.new ≡ asked.old ++ record { task = call.0; seq = call.1; version = call.2; what = AskedWhat.Refused (word_in 1 (call_seen line.now)) fault } ∷ []) }
+    ensures line { OnFalse (is_some result) (asked.new ≡ asked.old ++ record { task = call.0; seq = call.1; version = call.2; what = AskedWhat.Refused (word_in 1 (call_seen line.now)) fault } ∷ []) }
+    ensures stop { IfSome result (λ stop. stop ≡ stops.Memory) }
 {
     let (task, seq, version) = call;
     let Ok(file) = Bytes::from_slice(alloc, words_of(line).one) else {
@@ -118,7 +125,8 @@ fn write_line<R: Wait, S: ScriptLines, L: Ledger>(
     requires table { task.old.table ≡ stage.kernel.now.table }
     requires top { task.old.version ≤ length task.old.journal }
     requires act { verb_in (call_seen line.now) ≡ Some verbs.Write }
-    ensures { (ls : List ScriptLine) → Ran (is_some result) (script_of S.told stage.entry) (call_seen line.now ∷ ls) ls task.old task.new asked.old asked.new }
+    ensures ran { (ls : List ScriptLine) → Ran (is_some result) (script_of S.told stage.entry) (call_seen line.now ∷ ls) ls task.old task.new asked.old asked.new }
+    ensures cause { (ls : List ScriptLine) → IfSome result (IsCause (script_of S.told stage.entry) (call_seen line.now ∷ ls) task.old task.new) }
 {
     let number = task.number();
     let seq = task.made() + 1;
@@ -133,7 +141,7 @@ fn write_line<R: Wait, S: ScriptLines, L: Ledger>(
             refuse(alloc, asked, line, (number, seq, version), fault)
         }
         Ok(Written::TrailFull) => Some(Stop::TrailFull),
-        Ok(Written::SeqFull) => Some(Stop::Unscripted),
+        Ok(Written::SeqFull) => Some(Stop::SeqFull),
         Err(_) => Some(Stop::Memory),
     }
 }
@@ -152,12 +160,13 @@ fn make_line<R: Wait, S: ScriptLines, L: Ledger>(
     requires table { task.old.table ≡ stage.kernel.now.table }
     requires top { task.old.version ≤ length task.old.journal }
     requires act { IsAct stage.kernel.now.labels stage.names.now (call_seen line.now) (acts.Make call) }
-    ensures { (ls : List ScriptLine) → Ran (is_some result) (script_of S.told stage.entry) (call_seen line.now ∷ ls) ls task.old task.new asked.old asked.new }
+    ensures ran { (ls : List ScriptLine) → Ran (is_some result) (script_of S.told stage.entry) (call_seen line.now ∷ ls) ls task.old task.new asked.old asked.new }
+    ensures cause { (ls : List ScriptLine) → IfSome result (IsCause (script_of S.told stage.entry) (call_seen line.now ∷ ls) task.old task.new) }
 {
     match stage.kernel.call(rt, alloc, task, call, steps) {
         Ok(Called::Entry(_)) => None,
         Ok(Called::TrailFull(_)) => Some(Stop::TrailFull),
-        Ok(Called::SeqFull(_)) => Some(Stop::Unscripted),
+        Ok(Called::SeqFull(_)) => Some(Stop::SeqFull),
         Err(_) => Some(Stop::Memory),
     }
 }
@@ -177,7 +186,8 @@ fn line_by<R: Wait, S: ScriptLines, L: Ledger>(
     requires table { task.old.table ≡ stage.kernel.now.table }
     requires top { task.old.version ≤ length task.old.journal }
     requires act { IsAct stage.kernel.now.labels stage.names.now (call_seen line.now) act }
-    ensures { (ls : List ScriptLine) → Ran (is_some result) (script_of S.told stage.entry) (call_seen line.now ∷ ls) ls task.old task.new asked.old asked.new }
+    ensures ran { (ls : List ScriptLine) → Ran (is_some result) (script_of S.told stage.entry) (call_seen line.now ∷ ls) ls task.old task.new asked.old asked.new }
+    ensures cause { (ls : List ScriptLine) → IfSome result (IsCause (script_of S.told stage.entry) (call_seen line.now ∷ ls) task.old task.new) }
 {
     let mut steps = Steps::<L>::new(blank);
     match act {
@@ -202,7 +212,8 @@ pub fn plain_line<R: Wait, S: ScriptLines>(
     requires table { task.old.table ≡ stage.kernel.now.table }
     requires top { task.old.version ≤ length task.old.journal }
     requires act { IsAct stage.kernel.now.labels stage.names.now (call_seen line.now) act }
-    ensures { (ls : List ScriptLine) → Ran (is_some result) (script_of S.told stage.entry) (call_seen line.now ∷ ls) ls task.old task.new asked.old asked.new }
+    ensures ran { (ls : List ScriptLine) → Ran (is_some result) (script_of S.told stage.entry) (call_seen line.now ∷ ls) ls task.old task.new asked.old asked.new }
+    ensures cause { (ls : List ScriptLine) → IfSome result (IsCause (script_of S.told stage.entry) (call_seen line.now ∷ ls) task.old task.new) }
 {
     line_by::<R, S, Brand>(rt, alloc, stage, task, asked, line, act, Blank::new(1))
 }

@@ -1,4 +1,4 @@
-ghost use Rattle.std.specs.Prelude.{◌≡◌, ℕ, List, [], Ok, fold, IfOk};
+ghost use Rattle.std.specs.Prelude.{◌≡◌, ℕ, List, [], Ok, fold, IfOk, IfErr};
 ghost use Rattle.script_spec.specs.Grammar.{parse};
 ghost use Rattle.script_spec.specs.Lines.{table_of};
 ghost use Rattle.replay_spec.specs.Replays.{with_asked};
@@ -6,7 +6,9 @@ ghost use Rattle.replay_spec.specs.Plain.{IsPlain};
 ghost use Rattle.legal_spec.specs.Fits.{IsLegalFor};
 ghost use Rattle.legal_runs.specs.Laws.{run_record};
 ghost use Rattle.script_run.specs.Closings.{HasRun, IsScript};
+ghost use Rattle.script_run.specs.Stops.{IsStopOfScript};
 
+use crate::making::Stop;
 use crate::workers::{Worked, work};
 use asked_lines::AskedByTask;
 use outside::Gate;
@@ -44,25 +46,31 @@ fn by_task(alloc: Global, asked: AskedLines) -> Result<AskedLines, AllocError>
 }
 
 /// Runs the tasks of a script at a kernel of their own, and closes it: what it hands out, and the
-/// asked, refused and waited lines. A worker that stops is want of memory.
+/// asked, refused and waited lines. Where it cannot, it says why. A script's tasks find room for each
+/// of their calls, and each of their forks makes a task.
 fn close_run<R: Threads + Wait + Sync, G: Gate + Sync>(
     rt: &R,
     alloc: Global,
     script: &Script<'_>,
     gate: &G,
-) -> Result<(Closed, AskedLines), AllocError>
+) -> Result<(Closed, AskedLines), Stop>
     requires read { IsScript script.now }
-    ensures { IfOk result (λ r. HasRun script.now r.0 r.1) }
+    ensures has_run { IfOk result (λ r. HasRun script.now r.0 r.1) }
+    ensures stop { IfErr result IsStopOfScript }
 {
-    let (kernel, task) = Kernel::boot(alloc, script.labels()?)?;
+    let Ok(labels) = script.labels() else {
+        return Err(Stop::Memory);
+    };
+    let Ok((kernel, task)) = Kernel::boot(alloc, labels) else {
+        return Err(Stop::Memory);
+    };
     let Worked { task, asked, stop } = work(rt, alloc, &kernel, task, Pid(0), script, gate);
-    let closed = kernel.close(alloc, task);
-    if stop.is_some() {
-        return Err(AllocError);
-    }
-    match closed {
-        Ok(closed) => Ok((closed, asked)),
-        Err(_) => Err(AllocError),
+    let Ok(closed) = kernel.close(alloc, task) else {
+        return Err(Stop::Memory);
+    };
+    match stop {
+        Some(stop) => Err(stop),
+        None => Ok((closed, asked)),
     }
 }
 
@@ -100,7 +108,9 @@ pub fn run<R: Threads + Wait + Sync, G: Gate + Sync>(
     ensures plain { IfOk result (λ r. IsPlain r.report) }
     ensures closed { IfOk result (λ r. (r.report.journal ≡ r.closed.journal) × (r.report.history ≡ r.closed.history)) }
 {
-    let (closed, asked) = close_run(rt, alloc, script, gate)?;
+    let Ok((closed, asked)) = close_run(rt, alloc, script, gate) else {
+        return Err(AllocError);
+    };
     let report = report_of(alloc, script, &closed, asked)?;
     Ok(Ran { report, closed })
 }

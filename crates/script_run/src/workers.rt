@@ -1,4 +1,4 @@
-ghost use Rattle.std.specs.Prelude.{◌≡◌, ◌≤◌, ◌<◌, ◌+◌, [], ◌∷◌, ◌++◌, ℕ, List, length, take, false, is_some};
+ghost use Rattle.std.specs.Prelude.{◌⊎◌, ◌≡◌, ◌≤◌, ◌<◌, ◌+◌, [], ◌∷◌, ◌++◌, ℕ, List, length, take, Some, false, is_some, IfSome};
 ghost use Rattle.std.specs.Bool.{OnFalse};
 ghost use Rattle.script_spec.specs.Grammar.{most_tasks};
 ghost use Rattle.script_spec.specs.Lines.{ScriptLine, table_of};
@@ -10,6 +10,8 @@ ghost use Rattle.task_runs.specs.Meetings.{Met};
 ghost use Rattle.script_acts.specs.Acts.{IsAct};
 ghost use Rattle.script_run.specs.Shared.{script_in};
 ghost use Rattle.script_run.specs.Stages.{script_of, IsForked, IsAwaited};
+ghost use Rattle.script_run.specs.Stops.{IsCause, IsForkCause, IsOwnStop, IsMeetCause, without_child};
+ghost use Rattle.script_run.specs.declared.making.Stop.TheVariants as stops;
 
 use crate::making::{Stop, note, plain_line};
 use crate::stage::{ScriptLines, Stage, count, next_line, wait_place};
@@ -43,11 +45,13 @@ pub struct Reached {
 }
 
 /// Why a fork has no child.
-fn why_no_child(called: &Called) -> Stop {
+fn why_no_child(called: &Called) -> Stop
+    ensures { result ≡ without_child called.now }
+{
     match called {
         Called::Entry(_) => Stop::NoChild,
         Called::TrailFull(_) => Stop::TrailFull,
-        Called::SeqFull(_) => Stop::Unscripted,
+        Called::SeqFull(_) => Stop::SeqFull,
     }
 }
 
@@ -63,7 +67,8 @@ fn fork_by<R: Wait, L: Ledger>(
     requires blank { (blank.name ≡ L.name) × (blank.parts ≡ L.parts) × (0 < L.parts) }
     requires table { task.old.table ≡ kernel.now.table }
     requires top { task.old.version ≤ length task.old.journal }
-    ensures { IsForked task.old task.new child result }
+    ensures forked { IsForked task.old task.new child result }
+    ensures cause { IsForkCause task.old task.new result }
 {
     let mut steps = Steps::<L>::new(blank);
     let Ok((called, kid)) = kernel.fork(rt, alloc, task, child, &mut steps) else {
@@ -85,7 +90,8 @@ fn fork<R: Wait>(
 ) -> Result<Task, Stop>
     requires table { task.old.table ≡ kernel.now.table }
     requires top { task.old.version ≤ length task.old.journal }
-    ensures { IsForked task.old task.new child result }
+    ensures forked { IsForked task.old task.new child result }
+    ensures cause { IsForkCause task.old task.new result }
 {
     fork_by::<R, Brand>(rt, alloc, kernel, task, child, Blank::new(1))
 }
@@ -98,7 +104,8 @@ fn gather(
     stop: Option<Stop>,
     failed: Option<Stop>,
 ) -> Option<Stop>
-    ensures { OnFalse (is_some result) ((is_some stop ≡ false) × (is_some failed ≡ false) × (asked.new ≡ asked.old ++ more)) }
+    ensures asked { OnFalse (is_some result) ((is_some stop ≡ false) × (is_some failed ≡ false) × (asked.new ≡ asked.old ++ more)) }
+    ensures cause { IfSome result (λ why. (stop ≡ Some why) ⊎ ((failed ≡ Some why) ⊎ (why ≡ stops.Memory))) }
 {
     if stop.is_some() {
         return stop;
@@ -115,12 +122,13 @@ fn gather(
 /// Runs the line by which a task waits for a child that it has adopted.
 fn wait_line(kernel: &Kernel, task: &mut Task, asked: &mut AskedLines, child: Pid) -> Option<Stop>
     requires table { task.old.table ≡ kernel.now.table }
-    ensures { IsAwaited task.old task.new child (is_some result) asked.old asked.new }
+    ensures awaited { IsAwaited task.old task.new child (is_some result) asked.old asked.new }
+    ensures cause { IfSome result (IsOwnStop task.new) }
 {
     let number = task.number();
     let seq = task.made() + 1;
     let Ok(version) = kernel.mark(task) else {
-        return Some(Stop::Unscripted);
+        return Some(Stop::SeqFull);
     };
     let line = AskedLine {
         task: number,
@@ -143,7 +151,8 @@ fn meet<S: ScriptLines>(
 ) -> Reached
     requires tables { (mine.task.table ≡ stage.kernel.now.table) × (theirs.task.table ≡ stage.kernel.now.table) }
     requires place { until ≤ to }
-    ensures { Met (script_of S.told stage.entry) child.0 (is_some mine.stop) (is_some theirs.stop) (is_some result.worked.stop) mine.task theirs.task result.worked.task mine.asked theirs.asked result.worked.asked until to result.at }
+    ensures met { Met (script_of S.told stage.entry) child.0 (is_some mine.stop) (is_some theirs.stop) (is_some result.worked.stop) mine.task theirs.task result.worked.task mine.asked theirs.asked result.worked.asked until to result.at }
+    ensures cause { IfSome result.worked.stop (IsMeetCause mine.stop theirs.stop mine.task theirs.task result.worked.task) }
 {
     let Worked {
         mut task,
@@ -185,6 +194,7 @@ fn plain_step<R: Wait, S: ScriptLines>(
     requires top { task.version ≤ length task.journal }
     requires act { IsAct stage.kernel.now.labels stage.names.now (call_seen line.now) act }
     ensures ran { (ls : List ScriptLine) → Ran (is_some result.worked.stop) (script_of S.told stage.entry) (call_seen line.now ∷ ls) ls task result.worked.task asked result.worked.asked }
+    ensures cause { (ls : List ScriptLine) → IfSome result.worked.stop (IsCause (script_of S.told stage.entry) (call_seen line.now ∷ ls) task result.worked.task) }
     ensures at { result.at ≡ at }
 {
     let stop = plain_line(rt, alloc, stage, &mut task, &mut asked, line, act);
@@ -214,7 +224,8 @@ fn go_by_parts<R: Threads + Wait + Sync, G: Gate + Sync, S: ScriptLines + Sync>(
     requires place { (from ≤ to) × (to ≤ length (S.told script.now)) }
     requires names { length names.now ≤ most_tasks }
     requires forks { ForksFirst (script_in kernel.now.labels names.now (S.told script.now)) }
-    ensures { Ran (is_some result.stop) (script_in kernel.now.labels names.now (S.told script.now)) (segment pid from to (S.told script.now)) [] task result.task asked result.asked }
+    ensures ran { Ran (is_some result.stop) (script_in kernel.now.labels names.now (S.told script.now)) (segment pid from to (S.told script.now)) [] task result.task asked result.asked }
+    ensures cause { IfSome result.stop (IsCause (script_in kernel.now.labels names.now (S.told script.now)) (segment pid from to (S.told script.now)) task result.task) }
 {
     let stage = Stage {
         kernel,
@@ -246,6 +257,8 @@ fn halves<R: Threads + Wait + Sync, G: Gate + Sync, S: ScriptLines + Sync>(
     requires forks { ForksFirst (script_of S.told stage) }
     ensures mine { Ran (is_some result.0.stop) (script_of S.told stage.entry) (segment pid at until (S.told stage.entry.script.now)) [] task result.0.task asked result.0.asked }
     ensures theirs { Ran (is_some result.1.stop) (script_of S.told stage.entry) (segment child at (length (S.told stage.entry.script.now)) (S.told stage.entry.script.now)) [] kid result.1.task [] result.1.asked }
+    ensures my_cause { IfSome result.0.stop (IsCause (script_of S.told stage.entry) (segment pid at until (S.told stage.entry.script.now)) task result.0.task) }
+    ensures their_cause { IfSome result.1.stop (IsCause (script_of S.told stage.entry) (segment child at (length (S.told stage.entry.script.now)) (S.told stage.entry.script.now)) kid result.1.task) }
 {
     let Stage {
         kernel,
@@ -256,7 +269,8 @@ fn halves<R: Threads + Wait + Sync, G: Gate + Sync, S: ScriptLines + Sync>(
         rt,
         || -> Worked
             requires { (task.table ≡ kernel.now.table) × (task.version ≤ length task.journal) × (at ≤ until) × (until ≤ length (S.told script.now)) × (length names.now ≤ most_tasks) × ForksFirst (script_in kernel.now.labels names.now (S.told script.now)) }
-            ensures { Ran (is_some result.stop) (script_in kernel.entry.now.labels names.entry.now (S.told script.entry.now)) (segment pid at until (S.told script.entry.now)) [] task result.task asked result.asked }
+            ensures ran { Ran (is_some result.stop) (script_in kernel.entry.now.labels names.entry.now (S.told script.entry.now)) (segment pid at until (S.told script.entry.now)) [] task result.task asked result.asked }
+            ensures cause { IfSome result.stop (IsCause (script_in kernel.entry.now.labels names.entry.now (S.told script.entry.now)) (segment pid at until (S.told script.entry.now)) task result.task) }
         {
             go_by_parts(
                 rt, alloc, gate, kernel, names, script, task, asked, pid, at, until,
@@ -264,7 +278,8 @@ fn halves<R: Threads + Wait + Sync, G: Gate + Sync, S: ScriptLines + Sync>(
         },
         || -> Worked
             requires { (kid.table ≡ kernel.now.table) × (kid.version ≤ length kid.journal) × (at ≤ length (S.told script.now)) × (length names.now ≤ most_tasks) × ForksFirst (script_in kernel.now.labels names.now (S.told script.now)) }
-            ensures { Ran (is_some result.stop) (script_in kernel.entry.now.labels names.entry.now (S.told script.entry.now)) (segment child at (length (S.told script.entry.now)) (S.told script.entry.now)) [] kid result.task [] result.asked }
+            ensures ran { Ran (is_some result.stop) (script_in kernel.entry.now.labels names.entry.now (S.told script.entry.now)) (segment child at (length (S.told script.entry.now)) (S.told script.entry.now)) [] kid result.task [] result.asked }
+            ensures cause { IfSome result.stop (IsCause (script_in kernel.entry.now.labels names.entry.now (S.told script.entry.now)) (segment child at (length (S.told script.entry.now)) (S.told script.entry.now)) kid result.task) }
         {
             let asked = AskedLines::new(alloc);
             let end = count(script);
@@ -300,6 +315,7 @@ fn fork_line<R: Threads + Wait + Sync, G: Gate + Sync, S: ScriptLines + Sync>(
     requires line { ForksTask (script_of S.told stage) (call_seen line.now) child.0 }
     ensures ran { Ran (is_some result.worked.stop) (script_of S.told stage.entry) (call_seen line.now ∷ segment pid at to (S.told stage.entry.script.now)) (segment pid result.at to (S.told stage.entry.script.now)) task result.worked.task asked result.worked.asked }
     ensures place { is_some result.worked.stop ≡ false → (at ≤ result.at) × (result.at ≤ to) }
+    ensures cause { IfSome result.worked.stop (IsCause (script_of S.told stage.entry) (call_seen line.now ∷ segment pid at to (S.told stage.entry.script.now)) task result.worked.task) }
 {
     match fork(rt, alloc, stage.kernel, &mut task, child) {
         Err(stop) => Reached {
@@ -342,6 +358,7 @@ fn step<R: Threads + Wait + Sync, G: Gate + Sync, S: ScriptLines + Sync>(
     requires here { (n : ℕ) × Stands (S.told stage.script.now) n (call_seen line.now) × (at ≡ n + 1) }
     ensures ran { Ran (is_some result.worked.stop) (script_of S.told stage.entry) (call_seen line.now ∷ segment pid at to (S.told stage.entry.script.now)) (segment pid result.at to (S.told stage.entry.script.now)) task result.worked.task asked result.worked.asked }
     ensures place { is_some result.worked.stop ≡ false → (at ≤ result.at) × (result.at ≤ to) }
+    ensures cause { IfSome result.worked.stop (IsCause (script_of S.told stage.entry) (call_seen line.now ∷ segment pid at to (S.told stage.entry.script.now)) task result.worked.task) }
 {
     let stop = match act_of(alloc, stage.kernel.labels(), stage.names, line) {
         Ok(Some(Act::Fork(child))) => {
@@ -389,7 +406,8 @@ fn go<R: Threads + Wait + Sync, G: Gate + Sync, S: ScriptLines + Sync>(
     requires place { (from ≤ to) × (to ≤ length (S.told stage.script.now)) }
     requires names { length stage.names.now ≤ most_tasks }
     requires forks { ForksFirst (script_of S.told stage) }
-    ensures { Ran (is_some result.stop) (script_of S.told stage.entry) (segment pid from to (S.told stage.entry.script.now)) [] task result.task asked result.asked }
+    ensures ran { Ran (is_some result.stop) (script_of S.told stage.entry) (segment pid from to (S.told stage.entry.script.now)) [] task result.task asked result.asked }
+    ensures cause { IfSome result.stop (IsCause (script_of S.told stage.entry) (segment pid from to (S.told stage.entry.script.now)) task result.task) }
 {
     let mut task = task;
     let mut asked = asked;
@@ -436,7 +454,8 @@ pub fn work<R: Threads + Wait + Sync, G: Gate + Sync>(
     requires labels { kernel.now.labels ≡ table_of script.now }
     requires top { task.version ≤ length task.journal }
     requires forks { ForksFirst (scripted script.now) }
-    ensures { Ran (is_some result.stop) (scripted script.now) (lines_by pid.0 script.now) [] task result.task [] result.asked }
+    ensures ran { Ran (is_some result.stop) (scripted script.now) (lines_by pid.0 script.now) [] task result.task [] result.asked }
+    ensures cause { IfSome result.stop (IsCause (scripted script.now) (lines_by pid.0 script.now) task result.task) }
 {
     let asked = AskedLines::new(alloc);
     let Ok(names) = names_of(alloc, script.tasks()) else {

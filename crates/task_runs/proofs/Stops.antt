@@ -1,5 +1,5 @@
 -- The causes for which workers stop, from the line where one stops to the task that adopted all others.
-use Rattle.std.proofs.Common.{◌≡◌, ℕ, ◌+◌, ◌<◌, ◌≤◌, List, [], ◌∷◌, ◌++◌, length, Bool, true, sym, refl, ap, ◌∙◌, subst, arith, None, ⊎_elim, inl, inr}
+use Rattle.std.proofs.Common.{◌≡◌, ℕ, ◌+◌, ◌≤◌, List, [], ◌∷◌, ◌++◌, length, Bool, true, sym, refl, ap, ◌∙◌, subst, arith, None, ⊎_elim, inl, inr}
 use Rattle.smack_base.specs.declared.ids.Pid.{Pid}
 use Rattle.world_spec.specs.declared.Call.TheVariants.{Task}
 use Rattle.world_spec.specs.declared.TaskCall.TheVariants.{Fork}
@@ -7,13 +7,12 @@ use Rattle.world_spec.specs.declared.Reply.TheVariants.{Child}
 use Rattle.script_spec.specs.Lines.{ScriptLine}
 use Rattle.smack_world.specs.Stepping.{most_entries}
 use Rattle.live_table.specs.Lists.{Begins, Has, here, there}
-use Rattle.live_table.specs.Batches.{batches_by}
 use Rattle.live_table.proofs.Lists.{has_left, has_right, begins_length, begins_trans}
 use Rattle.smack_kernel.specs.Histories.{child_of}
 use Rattle.smack_kernel.specs.Tasks.{TaskValue, Stays, Calls, Starts, Adopts, next_entry}
 use Rattle.smack_kernel.specs.declared.turns.Entered.{Entered}
 use Rattle.task_runs.specs.Scripts.{Scripted, lines_by}
-use Rattle.task_runs.specs.Deeds.{entries_of, Deed, entries_in, batches_in, Made, FitsTo}
+use Rattle.task_runs.specs.Deeds.{Deed, entries_in, batches_in, FitsTo}
 use Rattle.task_runs.specs.Runs.{own, Went}
 use Rattle.task_runs.specs.Stops.{IsForkedTask, IsOutOfEntries, IsOutOfCalls, HasForkedNone}
 use Rattle.task_runs.proofs.Growing.{made_grow, all_at-grow}
@@ -150,8 +149,12 @@ module _ (s : Scripted) (v c w : TaskValue) (a : Adopts v c w) where
     unfolding forked_theirs
     out_theirs ls o = record {
       full = omega (arith, o.full, begins_length a.told_history);
-      lacks = inr (⊎_elim (λ m. (d.number, in_told d.number is_theirs, child,
-          omega (arith, m, st.made, went.made, fits_length s d.number (d.made + 1) (own went.run) (lines_by pid.0 s.lines) left went.fits)))
+      lacks = inr (⊎_elim (λ m. (
+        d.number,
+        in_told d.number is_theirs,
+        child,
+        omega (arith, m, st.made, went.made, fits_length s d.number (d.made + 1) (own went.run) (lines_by pid.0 s.lines) left went.fits),
+      ))
           (λ b. (b.0, in_told b.0 (there b.1), forked_theirs b.0 b.1 b.2, b.3)) o.lacks);
     }
 

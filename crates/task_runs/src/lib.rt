@@ -6,7 +6,9 @@
 //! calls of a task in their order with the runs of its children beside them; `Went` says what a
 //! task's run over some lines makes of the task, and `Ran` what a worker that may stop promises. By
 //! `Over` no call is judged in a version older than its task had seen or been told of. `Meetings`
-//! is where a task and its child come together again.
+//! is where a task and its child come together again. `Stops` says what is so where one stopped: that
+//! the history is full while some lines have no call, that a task has made all calls that it may, or
+//! that a fork made no task.
 //!
 //! Stands on smack_kernel for what a task is and what each call does to it, and on legal_spec for
 //! what a line may become.

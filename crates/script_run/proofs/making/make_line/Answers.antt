@@ -5,21 +5,21 @@ use Rattle.script_run.specs.Stages.{script_of}
 use Rattle.script_run.proofs.Working.{called_entry, called_full, called_seq}
 use Rattle.script_run.proofs.making.make_line.Goals as goal
 
-pub returns-in-Ok-Entry : goal.returns-in-Ok-Entry
-returns-in-Ok-Entry g c = λ ls. let act = c.requires.act in
+pub returns-in-Ok-Entry-clause-ran : goal.returns-in-Ok-Entry-clause-ran
+returns-in-Ok-Entry-clause-ran g c = λ ls. let act = c.requires.act in
     called_entry (script_of g.S.ScriptLines.told c.args.stage) (call_seen c.args.line.now) ls c.args.task.now c.call.new.task c.args.asked.now c.args.asked.now
     c.args.call c.in-Ok-Entry.field-0 c.in-Ok-Entry.field-0-0 act.0 act.1 c.in-Ok-Entry.field-0-is c.in-Ok-Entry.ensures.called
 
-pub returns-in-Ok-TrailFull : goal.returns-in-Ok-TrailFull
-returns-in-Ok-TrailFull g c = λ ls. called_full (script_of g.S.ScriptLines.told c.args.stage) (call_seen c.args.line.now) ls c.args.task.now c.call.new.task
+pub returns-in-Ok-TrailFull-clause-ran : goal.returns-in-Ok-TrailFull-clause-ran
+returns-in-Ok-TrailFull-clause-ran g c = λ ls. called_full (script_of g.S.ScriptLines.told c.args.stage) (call_seen c.args.line.now) ls c.args.task.now c.call.new.task
     c.args.asked.now c.args.asked.now c.args.call c.in-Ok-TrailFull.field-0-0 c.in-Ok-TrailFull.field-0 c.in-Ok-TrailFull.field-0-is
     c.in-Ok-TrailFull.ensures.called
 
-pub returns-in-Ok-SeqFull : goal.returns-in-Ok-SeqFull
-returns-in-Ok-SeqFull g c = λ ls. called_seq (script_of g.S.ScriptLines.told c.args.stage) (call_seen c.args.line.now) ls c.args.task.now c.call.new.task
+pub returns-in-Ok-SeqFull-clause-ran : goal.returns-in-Ok-SeqFull-clause-ran
+returns-in-Ok-SeqFull-clause-ran g c = λ ls. called_seq (script_of g.S.ScriptLines.told c.args.stage) (call_seen c.args.line.now) ls c.args.task.now c.call.new.task
     c.args.asked.now c.args.asked.now c.args.call c.in-Ok-SeqFull.field-0-0 c.in-Ok-SeqFull.field-0 c.requires.top c.in-Ok-SeqFull.field-0-is
     c.in-Ok-SeqFull.ensures.called
 
-pub returns : goal.returns
-returns g c = λ ls. ran_stopped (script_of g.S.ScriptLines.told c.args.stage) (call_seen c.args.line.now ∷ ls) ls c.args.task.now c.call.new.task
+pub returns-clause-ran : goal.returns-clause-ran
+returns-clause-ran g c = λ ls. ran_stopped (script_of g.S.ScriptLines.told c.args.stage) (call_seen c.args.line.now ∷ ls) ls c.args.task.now c.call.new.task
     c.args.asked.now c.args.asked.now c.in-Err.ensures.back.1

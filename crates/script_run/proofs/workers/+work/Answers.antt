@@ -3,18 +3,20 @@ use Rattle.script_text.specs.Lines.{call_seen}
 use Rattle.task_runs.specs.Scripts.{segment}
 use Rattle.task_runs.proofs.Calls.{ran_none, ran_unchanged}
 use Rattle.script_run.specs.Stages.{script_of, IsForked}
+use Rattle.script_run.specs.Stops.{IsForkCause}
 use Rattle.script_run.proofs.Working.{unforked, fork_lines, go_on, go_stops}
+use Rattle.script_run.proofs.Stopping.{cause_then, fork_lines_cause}
 use Rattle.script_run.proofs.workers.+work.Goals as goal
 
 pub fork_line-returns-in-Err-clause-ran : goal.fork_line-returns-in-Err-clause-ran
 fork_line-returns-in-Err-clause-ran g t c =
     let ls = segment c.args.pid c.args.at c.args.to (g.S.ScriptLines.told c.args.stage.script.now) in
     unforked (script_of g.S.ScriptLines.told c.args.stage) (call_seen c.args.line.now) ls ls c.args.task c.fork.new.task c.args.asked c.args.asked c.args.child
-    c.requires.line (subst (IsForked c.args.task c.fork.new.task c.args.child) c.in-Err.is c.fork.ensures)
+    c.requires.line (subst (IsForked c.args.task c.fork.new.task c.args.child) c.in-Err.is c.fork.ensures.forked)
 
 pub fork_line-returns-in-Ok-clause-ran : goal.fork_line-returns-in-Ok-clause-ran
 fork_line-returns-in-Ok-clause-ran g t c =
-    let f = subst (IsForked c.args.task c.fork.new.task c.args.child) c.in-Ok.is c.fork.ensures in
+    let f = subst (IsForked c.args.task c.fork.new.task c.args.child) c.in-Ok.is c.fork.ensures.forked in
     let h = c.halves-mine.result in
     let p = c.wait_place-until.ensures.place in
     let q = c.requires.place in
@@ -22,7 +24,7 @@ fork_line-returns-in-Ok-clause-ran g t c =
     c.meet.result.at (call_seen c.args.line.now) c.args.task c.fork.new.task h.0.task c.in-Ok.kid h.1.task c.meet.result.worked.task f.0
     c.args.asked h.0.asked h.1.asked c.meet.result.worked.asked (is_some h.0.stop) (is_some h.1.stop) (is_some c.meet.result.worked.stop)
     p.0 p.1 (omega arith) refl c.requires.first c.requires.line f.1 f.2 f.3 c.halves-mine.ensures.mine c.halves-mine.ensures.theirs
-    c.meet.ensures c.wait_place-until.ensures.line
+    c.meet.ensures.met c.wait_place-until.ensures.line
 
 pub go-loop-line-init : goal.go-loop-line-init
 go-loop-line-init g t c = record {
@@ -33,8 +35,8 @@ go-loop-line-init g t c = record {
       c.args.asked c.requires.top;
 }
 
-pub go-returns-then-is_some : goal.go-returns-then-is_some
-go-returns-then-is_some g t c = let r = c.step-worked.result in
+pub go-returns-then-is_some-clause-ran : goal.go-returns-then-is_some-clause-ran
+go-returns-then-is_some-clause-ran g t c = let r = c.step-worked.result in
     go_stops (script_of g.S.ScriptLines.told c.args.stage) (segment c.args.pid c.args.from c.args.to (g.S.ScriptLines.told c.args.stage.script.now)) c.args.task
     c.loop-line.task r.worked.task c.args.asked c.loop-line.asked r.worked.asked _ _ _ (is_some r.worked.stop) c.loop-line.invariant.ran
     c.in-Some.ensures.line c.step-worked.ensures.ran (sym c.is_some.ensures ∙ c.if-is_some.true) []
@@ -60,3 +62,30 @@ step-returns-clause-ran g t c =
     let ls = segment c.args.pid c.args.at c.args.to (g.S.ScriptLines.told c.args.stage.script.now) in
     ran_unchanged (script_of g.S.ScriptLines.told c.args.stage) (call_seen c.args.line.now ∷ ls) ls c.args.task c.args.task c.args.asked c.args.asked
     c.requires.top refl
+
+pub fork_line-returns-in-Ok-clause-cause : goal.fork_line-returns-in-Ok-clause-cause
+fork_line-returns-in-Ok-clause-cause g t c =
+    let f = subst (IsForked c.args.task c.fork.new.task c.args.child) c.in-Ok.is c.fork.ensures.forked in
+    let h = c.halves-mine.result in
+    let p = c.wait_place-until.ensures.place in
+    let q = c.requires.place in
+    fork_lines_cause (script_of g.S.ScriptLines.told c.args.stage) c.args.pid c.args.child c.args.at c.wait_place-until.result c.args.to
+    (length (g.S.ScriptLines.told c.args.stage.script.now)) (call_seen c.args.line.now) c.args.task c.fork.new.task h.0.task c.in-Ok.kid h.1.task
+    c.meet.result.worked.task f.0 c.args.asked h.0.asked h.1.asked (is_some h.0.stop) (is_some h.1.stop) h.0.stop h.1.stop p.0 p.1 (omega arith) refl
+    c.requires.first f.1 f.2 f.3 c.halves-mine.ensures.mine c.halves-mine.ensures.theirs c.halves-mine.ensures.my_cause
+    c.halves-mine.ensures.their_cause c.meet.result.worked.stop c.meet.ensures.cause
+
+pub go-returns-then-is_some-clause-cause : goal.go-returns-then-is_some-clause-cause
+go-returns-then-is_some-clause-cause g t c = let r = c.step-worked.result in
+    cause_then (script_of g.S.ScriptLines.told c.args.stage) (segment c.args.pid c.args.from c.args.to (g.S.ScriptLines.told c.args.stage.script.now))
+    _ _ c.args.task c.loop-line.task r.worked.task c.args.asked c.loop-line.asked r.worked.stop c.loop-line.invariant.ran
+    c.in-Some.ensures.line c.step-worked.ensures.cause
+
+pub fork_line-returns-in-Err-clause-cause : goal.fork_line-returns-in-Err-clause-cause
+fork_line-returns-in-Err-clause-cause g t c =
+    (subst (IsForkCause c.args.task c.fork.new.task) c.in-Err.is c.fork.ensures.cause) (script_of g.S.ScriptLines.told c.args.stage)
+    (call_seen c.args.line.now) (segment c.args.pid c.args.at c.args.to (g.S.ScriptLines.told c.args.stage.script.now))
+
+pub step-returns-in-Ok-Some-clause-cause : goal.step-returns-in-Ok-Some-clause-cause
+step-returns-in-Ok-Some-clause-cause g t c =
+    c.plain_step.ensures.cause (segment c.args.pid c.args.at c.args.to (g.S.ScriptLines.told c.args.stage.script.now))

@@ -2,14 +2,15 @@ use Rattle.std.proofs.Common.{refl, ◌∙◌, [], is_some}
 use Rattle.task_runs.specs.Scripts.{scripted, lines_by}
 use Rattle.task_runs.proofs.Calls.{ran_unchanged}
 use Rattle.script_run.proofs.Working.{work_lines}
+use Rattle.script_run.proofs.Stopping.{work_cause}
 use Rattle.script_run.proofs.workers.work.Goals as goal
 
-pub returns-in_default : goal.returns-in_default
-returns-in_default g c = ran_unchanged (scripted c.args.script.now) (lines_by c.args.pid.0 c.args.script.now) [] c.args.task c.args.task []
+pub returns-in_default-clause-ran : goal.returns-in_default-clause-ran
+returns-in_default-clause-ran g c = ran_unchanged (scripted c.args.script.now) (lines_by c.args.pid.0 c.args.script.now) [] c.args.task c.args.task []
     c.new-asked.result c.requires.top refl
 
-pub returns : goal.returns
-returns g c = let ran = rw c.new-asked.ensures at c.go.ensures in work_lines c.args.script.now
+pub returns-clause-ran : goal.returns-clause-ran
+returns-clause-ran g c = let ran = rw c.new-asked.ensures at c.go.ensures.ran in work_lines c.args.script.now
     (record { labels = c.args.kernel.now.labels; names = c.items.result.now; lines = c.args.script.now }) c.args.pid.0
     c.count.result (is_some c.go.result.stop) c.args.task c.go.result.task c.go.result.asked
     (λ i. record {
@@ -17,3 +18,13 @@ returns g c = let ran = rw c.new-asked.ensures at c.go.ensures in work_lines c.a
       names = (c.items.ensures ∙ (c.in-Ok.ensures ∙ c.tasks.ensures.names)) i;
       lines = c.args.script.now;
     }) c.count.ensures ran
+
+pub returns-clause-cause : goal.returns-clause-cause
+returns-clause-cause g c = work_cause c.args.script.now
+    (record { labels = c.args.kernel.now.labels; names = c.items.result.now; lines = c.args.script.now }) c.args.pid.0
+    c.count.result c.go.result.stop c.args.task c.go.result.task
+    (λ i. record {
+      labels = (c.requires.labels) i;
+      names = (c.items.ensures ∙ (c.in-Ok.ensures ∙ c.tasks.ensures.names)) i;
+      lines = c.args.script.now;
+    }) c.count.ensures c.go.ensures.cause
