@@ -62,10 +62,14 @@ impl AskedByTask {
     }
 }
 
-/// Puts lines behind others.
+/// Puts lines behind others. Where there are no others they are not copied.
 pub fn append(lines: &mut AskedLines, more: AskedLines) -> Result<(), AllocError>
     ensures { OnOk result (lines.new ≡ lines.old ++ more) }
 {
+    if lines.items().is_empty() {
+        *lines = more;
+        return Ok(());
+    }
     lines.reserve(more.items().len())?;
     for line in more.into_vec() {
         lines.push(line)?;

@@ -42,8 +42,8 @@ impl Model for World {
 /// What a step came to.
 #[derive(Debug, Drop)]
 pub enum Stepped {
-    /// The call was taken: the place of its entry in the trail, counted from 1, and copies of the
-    /// checks and the reply of the entry.
+    /// The call was taken: the place of its entry in the trail, counted from 1, and the checks and
+    /// the reply of the entry once more.
     Entered {
         place: u32,
         checks: Checks,
@@ -95,7 +95,8 @@ impl World {
         }
         match act(alloc, &mut self.state, rules, task, &call) {
             Err(error) => Err((error, call)),
-            Ok((kept, told)) => {
+            // A copy has no room to spare, so the trail keeps the copies.
+            Ok((told, kept)) => {
                 self.trail
                     .push(Entry {
                         task,
