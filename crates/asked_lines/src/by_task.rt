@@ -5,6 +5,7 @@ ghost use Rattle.asked_lines.specs.ByTask.{all_lines, list_count};
 use record_spec::{AskedLine, AskedLines};
 use std::alloc::{AllocError, Global};
 use std::marker::Model;
+use std::mem::replace;
 
 /// How many lists there are: one for each task that a run can have, and one more.
 const LISTS: usize = 65;
@@ -62,7 +63,7 @@ impl AskedByTask {
     }
 }
 
-/// Puts lines behind others. Where there are no others they are not copied.
+/// Puts lines behind others. Where there are no others they stay where they are.
 pub fn append(lines: &mut AskedLines, more: AskedLines) -> Result<(), AllocError>
     ensures { OnOk result (lines.new ≡ lines.old ++ more) }
 {
@@ -70,9 +71,10 @@ pub fn append(lines: &mut AskedLines, more: AskedLines) -> Result<(), AllocError
         *lines = more;
         return Ok(());
     }
-    lines.reserve(more.items().len())?;
-    for line in more.into_vec() {
-        lines.push(line)?;
-    }
+    let mut more = more.into_vec();
+    let none = AskedLines::new(*more.allocator());
+    let mut all = replace(lines, none).into_vec();
+    all.append(&mut more)?;
+    *lines = AskedLines::from_vec(all);
     Ok(())
 }
