@@ -11,7 +11,7 @@ use label_table::Labels;
 use script_text::{
     Line, MOST_BYTES, TaskVerb, TraceWay, TreeVerb, cap_of, number_of, signal_of, trace_way_of,
 };
-use smack_base::{Bytes, Modes, Path, PathFault, Pid};
+use smack_base::{Bytes, Duplicate, Modes, Path, PathFault, Pid};
 use std::alloc::{AllocError, Global};
 use world_spec::{TaskCall, TreeCall};
 
@@ -24,7 +24,8 @@ fn path_in(alloc: Global, word: &[u8]) -> Result<Option<Path>, AllocError>
         return Ok(None);
     }
     match Path::read(alloc, word) {
-        Ok(path) => Ok(Some(path)),
+        // A copy has no room to spare, and a record keeps its paths.
+        Ok(path) => Ok(Some(path.copy()?)),
         Err(PathFault::Memory) => Err(AllocError),
         Err(_) => Ok(None),
     }

@@ -15,36 +15,51 @@ use script_text::{Line, Script};
 use smack_base::Bytes;
 use std::alloc::{AllocError, Global};
 
-/// Runs calls in order.
+/// So many calls run before the memory of those that have run goes back.
+const CALLS_AT_ONCE: usize = 1024;
+
+/// Gives memory back that calls have left, from time to time.
+fn give_back(calls: &mut Vec<Line<'_>>)
+    ensures { calls.new.items ≡ calls.old.items }
+{
+    if calls.len() % CALLS_AT_ONCE == 0 {
+        calls.shrink_to_fit();
+    }
+}
+
+/// Runs calls in order. Each leaves its list, so that not all of them stand beside the whole record.
 fn run_lines(
     alloc: Global,
     labels: &Labels,
     names: &[Bytes],
-    lines: &[Line<'_>],
+    lines: Vec<Line<'_>>,
 ) -> Result<Runner, AllocError>
-    requires lines { length lines.now ≤ most_lines }
+    requires lines { length lines.items ≤ most_lines }
     requires names { length names.now ≤ most_tasks }
-    ensures { IfOk result (λ run. seen run ≡ run_of labels.now names.now (map call_seen lines.now)) }
+    ensures { IfOk result (λ run. seen run ≡ run_of labels.now names.now (map call_seen lines.entry.items)) }
 {
     let mut run = Runner::new(alloc)?;
-    for line in lines {
-        run.step(alloc, labels, names, line)?;
+    let mut left = lines;
+    left.reverse();
+    while let Some(line) = left.pop() {
+        run.step(alloc, labels, names, &line)?;
+        give_back(&mut left);
     }
     Ok(run)
 }
 
 /// The record that all calls of a script leave.
-fn record_of(alloc: Global, script: &Script<'_>) -> Result<RunRecord, AllocError>
-    ensures { IfOk result (λ r. r ≡ replayed script.now) }
+fn record_of(alloc: Global, script: Script<'_>) -> Result<RunRecord, AllocError>
+    ensures { IfOk result (λ r. r ≡ replayed script.entry) }
 {
-    let labels = script.labels()?;
-    let names = names_of(alloc, script.tasks())?;
+    let (lines, tasks, labels) = script.into_parts();
+    let names = names_of(alloc, tasks.as_slice())?;
     let Runner {
         rules: _,
         journal,
         world,
         asked,
-    } = run_lines(alloc, &labels, names.items(), script.lines())?;
+    } = run_lines(alloc, &labels, names.items(), lines)?;
     Ok(RunRecord {
         labels,
         names,
@@ -58,10 +73,10 @@ fn record_of(alloc: Global, script: &Script<'_>) -> Result<RunRecord, AllocError
 /// the newest version. Where the script was read from bytes, the record is plain, and legal for the
 /// script.
 #[tactic(auto, using(crate::proofs::PlainRecords::replayed_are_plain, crate::proofs::LegalRecords::replayed_are_legal))]
-pub fn replay(alloc: Global, script: &Script<'_>) -> Result<RunRecord, AllocError>
-    ensures replayed { IfOk result (λ r. r ≡ replayed script.now) }
-    ensures plain { IfOk result (λ r. (bytes : List ℕ) → parse bytes ≡ Ok script.now → IsPlain r) }
-    ensures legal { IfOk result (λ r. (bytes : List ℕ) → parse bytes ≡ Ok script.now → IsLegalFor script.now r) }
+pub fn replay(alloc: Global, script: Script<'_>) -> Result<RunRecord, AllocError>
+    ensures replayed { IfOk result (λ r. r ≡ replayed script.entry) }
+    ensures plain { IfOk result (λ r. (bytes : List ℕ) → parse bytes ≡ Ok script.entry → IsPlain r) }
+    ensures legal { IfOk result (λ r. (bytes : List ℕ) → parse bytes ≡ Ok script.entry → IsLegalFor script.entry r) }
 {
     record_of(alloc, script)
 }

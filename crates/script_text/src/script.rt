@@ -85,6 +85,23 @@ impl<'a> Script<'a> {
         self.tasks.as_slice()
     }
 
+    /// The calls, the names of the tasks and the label table, which `lines`, `tasks` and `labels`
+    /// give; takes no memory.
+    pub fn into_parts(self) -> (Vec<Line<'a>>, Vec<Part<'a>>, Labels)
+        ensures calls { map call_seen result.0.items ≡ self.entry }
+        ensures few { length result.0.items ≤ most_lines }
+        ensures names { names_in result.1.items ≡ task_names self.entry }
+        ensures few_names { length result.1.items ≤ most_tasks }
+        ensures labels { result.2 ≡ table_of self.entry }
+    {
+        let Script {
+            lines,
+            tasks,
+            labels,
+        } = self;
+        (lines, tasks, labels)
+    }
+
     /// The label table of the script: the predefined labels, and then its own in the order in
     /// which they stand, each once.
     pub fn labels(&self) -> Result<Labels, AllocError>

@@ -18,7 +18,7 @@ pub fn replay_bytes(alloc: Global, bytes: &[u8]) -> Result<RunRecord, ScriptFaul
         Ok(script) => script,
         Err(fault) => return Err(fault),
     };
-    match replay(alloc, &script) {
+    match replay(alloc, script) {
         Ok(record) => Ok(record),
         Err(_) => Err(ScriptFault::Memory),
     }
