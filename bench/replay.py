@@ -1,7 +1,8 @@
 #!/usr/bin/env python3
-"""Prints what `smack replay` takes for scripts of 1 and 4 MiB: the seconds for each MiB, and the
-greatest memory as a multiple of the script; and how long the file smack takes before it starts the
-program. Build the program first, as by ./smack."""
+"""Prints what `smack replay` takes for scripts of up to 4 MiB: the seconds for each MiB, and the
+greatest memory as a multiple of the script, by GNU time (the Debian package time); and how long the
+file smack takes before it starts the program. Build the program first, as by ./smack. A path as the
+first word names another program."""
 
 import os
 import statistics
@@ -40,26 +41,27 @@ def writes(size):
         length += len(block)
 
 
-# Runs the program on a file and prints the seconds, and its greatest memory in KiB. A process of its
-# own, since a child's memory is counted from that of the parent on.
-LAUNCHER = """
-import resource, subprocess, sys, time
-with open(sys.argv[2], "rb") as script:
-    start = time.monotonic()
-    subprocess.run([sys.argv[1], "replay"], stdin=script, stdout=subprocess.DEVNULL, check=True)
-    print(time.monotonic() - start, resource.getrusage(resource.RUSAGE_CHILDREN).ru_maxrss)
-"""
+def creates(size):
+    """Files of the root with names of six letters."""
+    return "".join(f"init create /f{i:05}\n" for i in range(size // 20)).encode()
 
 
-def measure(script):
+def lists(size, files=0):
+    """Listings of the root, which has so many files."""
+    head = "".join(f"init create /f{i}\n" for i in range(files))
+    return (head + "init list / 0\n" * ((size - len(head)) // 14)).encode()
+
+
+def measure(program, script):
     """The seconds and the greatest memory, in bytes, of one replay."""
-    with tempfile.NamedTemporaryFile() as file:
+    with tempfile.NamedTemporaryFile() as file, tempfile.NamedTemporaryFile("r") as said:
         file.write(script)
         file.flush()
-        command = [sys.executable, "-S", "-c", LAUNCHER, PROGRAM, file.name]
-        answer = subprocess.run(command, stdout=subprocess.PIPE, check=True)
-    seconds, kib = answer.stdout.split()
-    return float(seconds), int(kib) * 1024
+        command = ["/usr/bin/time", "-f", "%M", "-o", said.name, program, "replay"]
+        start = time.monotonic()
+        with open(file.name, "rb") as source:
+            subprocess.run(command, stdin=source, stdout=subprocess.DEVNULL, check=True)
+        return time.monotonic() - start, int(said.read()) * 1024
 
 
 def start_time(program):
@@ -72,16 +74,24 @@ def start_time(program):
     return statistics.median(seconds)
 
 
+def show(program, name, script):
+    seconds, memory = measure(program, script)
+    mib = len(script) / MIB
+    print(f"{name} of {mib:.2f} MiB: {seconds / mib:.3f} s for each MiB, memory {memory / len(script):.1f} times the script")
+
+
 def main():
-    measure(b"")
-    late = (start_time(PROGRAM) - start_time(BUILT)) * 1000
-    print(f"the file smack starts the program after {late:.1f} ms")
+    program = sys.argv[1] if len(sys.argv) > 1 else PROGRAM
+    measure(program, b"")
+    if program == PROGRAM:
+        late = (start_time(PROGRAM) - start_time(BUILT)) * 1000
+        print(f"the file smack starts the program after {late:.1f} ms")
     for name, make in (("asks", asks), ("writes", writes)):
         for size in (MIB, 4 * MIB):
-            script = make(size)
-            seconds, memory = measure(script)
-            mib = len(script) / MIB
-            print(f"{name} of {mib:.2f} MiB: {seconds / mib:.3f} s for each MiB, memory {memory / len(script):.1f} times the script")
+            show(program, name, make(size))
+    show(program, "creates", creates(MIB // 2))
+    for files in (0, 1, 4, 16):
+        show(program, f"lists of {files} names", lists(MIB, files))
 
 
 if __name__ == "__main__":
