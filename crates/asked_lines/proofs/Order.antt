@@ -1,8 +1,8 @@
 use Rattle.std.proofs.Common.{◌≡◌, ◌<◌, ◌≤◌, ◌+◌, ℕ, zero, suc, true, false, List, [], ◌∷◌, ◌++◌, length, get_or, set, refl, sym, ap, ◌∙◌, subst, arith, append_assoc, nat_lt, Result, Ok, Err, OnOk, OnErr}
-use Rattle.std.specs.List.{AllByRecursion, flat_map}
+use Rattle.std.specs.List.{AllByRecursion}
 use Rattle.std.proofs.lemmas.Bool.{lt-ltb, le-ltb}
 use Rattle.record_spec.specs.declared.AskedLine.{AskedLine}
-use Rattle.replay_spec.specs.Replays.{is_before, with_asked}
+use Rattle.replay_spec.specs.Replays.{with_asked}
 use Rattle.asked_lines.specs.ByTask.{all_lines, AreByTask}
 
 low_of : (xs : List AskedLine) (task : ℕ) (a : AskedLine) → AllByRecursion (λ b. b.task ≡ task) xs → task ≤ a.task

@@ -1,4 +1,4 @@
-use Rattle.std.proofs.Common.{◌≡◌, arith}
+use Rattle.std.proofs.Common.{arith}
 use Rattle.asked_lines.proofs.Order.{are_empty, no_lines}
 use Rattle.asked_lines.proofs.by_task.AskedByTask.new.Goals as goal
 

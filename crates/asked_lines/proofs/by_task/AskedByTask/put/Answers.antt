@@ -1,4 +1,4 @@
-use Rattle.std.proofs.Common.{◌≡◌, ◌<◌, ℕ, sym, subst}
+use Rattle.std.proofs.Common.{◌<◌, ℕ, sym, subst}
 use Rattle.asked_lines.proofs.Order.{lines_after, lists_after, count_after}
 use Rattle.asked_lines.proofs.by_task.AskedByTask.put.Goals as goal
 
