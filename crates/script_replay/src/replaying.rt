@@ -12,7 +12,7 @@ use label_table::Labels;
 use record_spec::RunRecord;
 use script_calls::names_of;
 use script_text::{Line, Script};
-use smack_base::Bytes;
+use smack_base::{Bytes, NameList};
 use std::alloc::{AllocError, Global};
 
 /// So many calls run before the memory of those that have run goes back.
@@ -48,18 +48,21 @@ fn run_lines(
     Ok(run)
 }
 
-/// The record that all calls of a script leave.
-fn record_of(alloc: Global, script: Script<'_>) -> Result<RunRecord, AllocError>
-    ensures { IfOk result (λ r. r ≡ replayed script.entry) }
+/// The record of calls that have run.
+fn report_of(
+    alloc: Global,
+    labels: Labels,
+    names: NameList,
+    run: Runner,
+) -> Result<RunRecord, AllocError>
+    ensures { IfOk result (λ r. r ≡ record { labels = labels; names = names; journal = (seen run).journal; history = (seen run).history; asked = (seen run).asked }) }
 {
-    let (lines, tasks, labels) = script.into_parts();
-    let names = names_of(alloc, tasks.as_slice())?;
     let Runner {
         rules: _,
         journal,
         world,
         asked,
-    } = run_lines(alloc, &labels, names.items(), lines)?;
+    } = run;
     Ok(RunRecord {
         labels,
         names,
@@ -69,11 +72,43 @@ fn record_of(alloc: Global, script: Script<'_>) -> Result<RunRecord, AllocError>
     })
 }
 
+/// The record that all calls of a script leave.
+fn record_of(alloc: Global, script: Script<'_>) -> Result<RunRecord, AllocError>
+    ensures { IfOk result (λ r. r ≡ replayed script.entry) }
+{
+    let (lines, tasks, labels) = script.into_parts();
+    let names = names_of(alloc, tasks.as_slice())?;
+    let run = run_lines(alloc, &labels, names.items(), lines)?;
+    report_of(alloc, labels, names, run)
+}
+
+/// The same, from a copy of its calls.
+fn record_of_copy(alloc: Global, script: &Script<'_>) -> Result<RunRecord, AllocError>
+    ensures { IfOk result (λ r. r ≡ replayed script.now) }
+{
+    let lines = Vec::from_slice(alloc, script.lines())?;
+    let labels = script.labels()?;
+    let names = names_of(alloc, script.tasks())?;
+    let run = run_lines(alloc, &labels, names.items(), lines)?;
+    report_of(alloc, labels, names, run)
+}
+
 /// The record of a script that is replayed: its calls are taken in written order, each judged at
 /// the newest version. Where the script was read from bytes, the record is plain, and legal for the
 /// script.
 #[tactic(auto, using(crate::proofs::PlainRecords::replayed_are_plain, crate::proofs::LegalRecords::replayed_are_legal))]
-pub fn replay(alloc: Global, script: Script<'_>) -> Result<RunRecord, AllocError>
+pub fn replay(alloc: Global, script: &Script<'_>) -> Result<RunRecord, AllocError>
+    ensures replayed { IfOk result (λ r. r ≡ replayed script.now) }
+    ensures plain { IfOk result (λ r. (bytes : List ℕ) → parse bytes ≡ Ok script.now → IsPlain r) }
+    ensures legal { IfOk result (λ r. (bytes : List ℕ) → parse bytes ≡ Ok script.now → IsLegalFor script.now r) }
+{
+    record_of_copy(alloc, script)
+}
+
+/// The same of a script that nobody needs afterwards: the memory of its calls goes back while they
+/// run.
+#[tactic(auto, using(crate::proofs::PlainRecords::replayed_are_plain, crate::proofs::LegalRecords::replayed_are_legal))]
+pub fn into_record(alloc: Global, script: Script<'_>) -> Result<RunRecord, AllocError>
     ensures replayed { IfOk result (λ r. r ≡ replayed script.entry) }
     ensures plain { IfOk result (λ r. (bytes : List ℕ) → parse bytes ≡ Ok script.entry → IsPlain r) }
     ensures legal { IfOk result (λ r. (bytes : List ℕ) → parse bytes ≡ Ok script.entry → IsLegalFor script.entry r) }

@@ -4,7 +4,7 @@ ghost use Rattle.smack_program.specs.Run.{GivesRun};
 
 use outside::Gate;
 use record_spec::RunRecord;
-use script_run::{Ran, replay, run};
+use script_run::{Ran, into_record, run};
 use script_text::{Script, ScriptFault};
 use std::alloc::Global;
 use std::sync::Wait;
@@ -18,7 +18,7 @@ pub fn replay_bytes(alloc: Global, bytes: &[u8]) -> Result<RunRecord, ScriptFaul
         Ok(script) => script,
         Err(fault) => return Err(fault),
     };
-    match replay(alloc, script) {
+    match into_record(alloc, script) {
         Ok(record) => Ok(record),
         Err(_) => Err(ScriptFault::Memory),
     }
