@@ -10,6 +10,8 @@
 
 mod calm;
 mod command;
+#[cfg(test)]
+mod kernel_tests;
 mod reading;
 mod records;
 #[cfg(test)]

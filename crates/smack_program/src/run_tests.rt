@@ -9,7 +9,7 @@ use std::thread;
 use std::thread::Threads;
 
 /// How `run` of what a source gives ends, and what is kept of it.
-fn run_of<R: Threads + Wait + Sync + AllocGlobal, S: Source, K: Sink, G: Gate + Sync>(
+pub fn run_of<R: Threads + Wait + Sync + AllocGlobal, S: Source, K: Sink, G: Gate + Sync>(
     rt: &R,
     source: &mut S,
     sink: &mut K,

@@ -1,0 +1,235 @@
+use crate::Status;
+use crate::run_tests::run_of;
+use outside::{CalmSink, CalmSource, Gate};
+use rule_fold::RuleIndex;
+use rules_spec::Batch;
+use smack_base::{Duplicate, NameList};
+use smack_kernel::Closed;
+use smack_world::{Entry, Reply, Stepped, World};
+use std::alloc::{AllocError, Global};
+use std::process::Abort;
+use std::sync::Wait;
+use std::sync::atomic::{AtomicBool, AtomicU32, Ordering};
+use std::test::Fail;
+use std::thread;
+use std::thread::Threads;
+
+/// How often the tasks run. The gate runs them once; `bench/stress` says how often it does.
+const ROUNDS: u32 = 1;
+
+/// What a task does, five times over: a call on files that all tasks name, and a write to rules that
+/// these calls are judged by.
+const ACTS: [(&str, &str); 10] = [
+    ("create /f", "load2 1\nA _ rw"),
+    ("list / 0", "load2 2\nA _ -\nA B r"),
+    ("create /g", "change-rule 1\nA _ rw -"),
+    ("unlink /f", "load2 0"),
+    ("create /f", "revoke-subject 1\nA"),
+    ("list / 1", "load2 1\nA _ w"),
+    ("unlink /g", "change-rule 1\nA _ r w"),
+    ("create /h", "load2 1\nA _ rwx"),
+    ("unlink /h", "logging 1\n3"),
+    ("list /f 0", "load2 1\nA _ rw"),
+];
+
+const NAMES: [&str; 4] = ["init", "B", "C", "D"];
+
+/// Puts one line, or one text, of a task into a script.
+fn put(script: &mut Vec<u8>, task: &str, verb: &str, rest: &str) -> Result<(), AllocError> {
+    for part in [task, " ", verb, rest, "\n"] {
+        script.extend_from_slice(part.as_bytes())?;
+    }
+    Ok(())
+}
+
+/// Puts the fifty calls and the fifty writes of a task into a script.
+fn put_task(script: &mut Vec<u8>, task: &str) -> Result<(), AllocError> {
+    for _ in 0..5u32 {
+        for (call, write) in ACTS {
+            put(script, task, "", call)?;
+            put(script, task, "write ", write)?;
+        }
+    }
+    Ok(())
+}
+
+/// A script of four tasks with the label `A`, whose calls on files are judged by rules.
+fn script<R: AllocGlobal>(rt: &R) -> Result<Vec<u8>, AllocError> {
+    let opening =
+        b"init relabel A\ninit drop mac-override\ninit fork B\ninit fork C\ninit fork D\n";
+    let mut script = Vec::from_slice(rt.alloc(), opening)?;
+    for name in NAMES {
+        put_task(&mut script, name)?;
+    }
+    Ok(script)
+}
+
+/// How many turns a task waits for the others.
+const TURNS: u32 = 50_000_000;
+
+/// Lets the tasks go on where all four have come.
+#[derive(Drop)]
+struct FourMeet {
+    came: AtomicU32,
+    missed: AtomicBool,
+}
+
+impl Gate for FourMeet {
+    fn before(&self, task: u32, seq: u32) {
+        let first = if task == 0 { 6 } else { 1 };
+        if seq != first {
+            return;
+        }
+        self.came.fetch_add(1, Ordering::SeqCst);
+        for _ in 0..TURNS {
+            if self.came.load(Ordering::SeqCst) == 4 {
+                return;
+            }
+            thread::yield_now();
+        }
+        self.missed.store(true, Ordering::SeqCst);
+    }
+}
+
+/// What a closed kernel hands out after the four tasks have run side by side.
+fn runs<R: Threads + Wait + Sync + AllocGlobal>(
+    rt: &R,
+    bytes: &[u8],
+) -> Result<Option<Closed>, Fail> {
+    let mut source = CalmSource::new(Vec::from_slice(rt.alloc(), bytes)?);
+    let mut sink = CalmSink::new(rt.alloc(), 65_536);
+    let gate = FourMeet {
+        came: AtomicU32::new(0),
+        missed: AtomicBool::new(false),
+    };
+    let (status, kept) = run_of(rt, &mut source, &mut sink, &gate)?;
+    if status != Status::Done || gate.missed.load(Ordering::SeqCst) {
+        return Ok(None);
+    }
+    Ok(kept)
+}
+
+fn are_same_names(one: &NameList, two: &NameList) -> bool {
+    if one.items().len() != two.items().len() {
+        return false;
+    }
+    let mut pairs = one.items().iter().zip(two.items().iter());
+    pairs.all(|(x, y)| x.items() == y.items())
+}
+
+fn is_same(one: &Reply, two: &Reply) -> bool {
+    match (one, two) {
+        (Reply::Ok, Reply::Ok) => true,
+        (Reply::Child(a), Reply::Child(b)) => a == b,
+        (
+            Reply::Names {
+                count: a,
+                names: these,
+            },
+            Reply::Names {
+                count: b,
+                names: those,
+            },
+        ) => a == b && are_same_names(these, those),
+        (Reply::Denied(a), Reply::Denied(b)) => a == b,
+        (Reply::Refused(a), Reply::Refused(b)) => a == b,
+        _ => false,
+    }
+}
+
+/// Takes batches until the rules are those of a version. No, where they are past it, or the journal
+/// or the memory ends before it.
+fn reaches(rules: &mut RuleIndex, journal: &[Batch], version: u32) -> bool {
+    for batch in journal {
+        if rules.version() >= version {
+            break;
+        }
+        if rules.absorb(batch).is_err() {
+            return false;
+        }
+    }
+    rules.version() == version
+}
+
+/// Whether the machine on one thread comes to the same checks and reply for an entry.
+fn steps_to(alloc: Global, world: &mut World, rules: &RuleIndex, entry: &Entry) -> bool {
+    let Ok(call) = entry.call.copy() else {
+        return false;
+    };
+    match world.step(alloc, rules, entry.task, entry.seq, call) {
+        Ok(
+            Stepped::Entered {
+                place: _,
+                checks,
+                reply,
+            },
+        ) => checks.items() == entry.checks.items() && is_same(&reply, &entry.reply),
+        _ => false,
+    }
+}
+
+/// Whether the machine on one thread comes to the same for all entries of a history, each in its
+/// version of the journal. Versions do not fall.
+fn replays(alloc: Global, journal: &[Batch], history: &[Entry]) -> Result<bool, AllocError> {
+    let mut rules = RuleIndex::new(alloc)?;
+    let mut world = World::new(alloc)?;
+    let mut all = true;
+    for entry in history {
+        let rest = journal.get(rules.version() as usize..).unwrap_or(&[]);
+        all = all
+            && reaches(&mut rules, rest, entry.version)
+            && steps_to(alloc, &mut world, &rules, entry);
+    }
+    Ok(all)
+}
+
+/// Whether the batches of a task stand in the order in which it made them.
+fn batches_rise(journal: &[Batch], task: u16) -> bool {
+    let mut last = 0;
+    for batch in journal {
+        if batch.task == task {
+            if batch.seq <= last {
+                return false;
+            }
+            last = batch.seq;
+        }
+    }
+    last > 0
+}
+
+/// Whether the entries of a task stand in the order in which it made them.
+fn entries_rise(history: &[Entry], task: u16) -> bool {
+    let mut last = 0;
+    for entry in history {
+        if entry.task == task {
+            if entry.seq <= last {
+                return false;
+            }
+            last = entry.seq;
+        }
+    }
+    last > 0
+}
+
+/// Whether a run left what the calls of each task come to.
+fn is_right(alloc: Global, closed: &Closed) -> Result<bool, AllocError> {
+    let journal = closed.journal().items();
+    let history = closed.history().items();
+    let mut right = journal.len() == 200 && history.len() == 205;
+    for task in 0..4u16 {
+        right = right && batches_rise(journal, task) && entries_rise(history, task);
+    }
+    Ok(right && replays(alloc, journal, history)?)
+}
+
+#[test]
+fn four_tasks_at_once(rt: HostRuntime) -> Result<(), Fail> {
+    let bytes = script(&rt)?;
+    for _ in 0..ROUNDS {
+        match runs(&rt, bytes.as_slice())? {
+            Some(closed) => assert!(rt; is_right(rt.alloc(), &closed)?),
+            None => panic!(rt; "nothing was kept"),
+        }
+    }
+    Ok(())
+}
