@@ -11,7 +11,11 @@
 mod calm;
 mod command;
 #[cfg(test)]
+mod kernel_calls;
+#[cfg(test)]
 mod kernel_tests;
+#[cfg(test)]
+mod limit_tests;
 mod reading;
 mod records;
 #[cfg(test)]
@@ -22,6 +26,8 @@ mod telling;
 #[cfg(test)]
 mod tests;
 mod top;
+#[cfg(test)]
+mod version_tests;
 mod writing;
 
 pub use calm::{replay_calm, run_calm};
