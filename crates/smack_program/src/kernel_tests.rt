@@ -14,10 +14,10 @@ use std::test::Fail;
 use std::thread;
 use std::thread::Threads;
 
-/// How often the tasks run. The gate runs them once; `bench/stress` says how often it does.
+/// How often four tasks run. The gate runs them once; `bench/stress` says how often it does.
 const ROUNDS: u32 = 1;
 
-/// What a task does, five times over: a call on files that all tasks name, and a write to rules that
+/// What a task does, again and again: a call on files that all tasks name, and a write to rules that
 /// these calls are judged by.
 const ACTS: [(&str, &str); 10] = [
     ("create /f", "load2 1\nA _ rw"),
@@ -42,9 +42,39 @@ fn put(script: &mut Vec<u8>, task: &str, verb: &str, rest: &str) -> Result<(), A
     Ok(())
 }
 
-/// Puts the fifty calls and the fifty writes of a task into a script.
-fn put_task(script: &mut Vec<u8>, task: &str) -> Result<(), AllocError> {
-    for _ in 0..5u32 {
+/// Tasks that run side by side, each of which does all acts so many times. The first makes the calls
+/// of the opening lines before.
+#[derive(Clone, Copy)]
+struct Crowd {
+    opening: &'static str,
+    opened: u8,
+    tasks: u16,
+    times: u32,
+}
+
+/// Four tasks with the label `A`, whose calls on files are judged by rules.
+fn four() -> Crowd {
+    Crowd {
+        opening: "init relabel A\ninit drop mac-override\ninit fork B\ninit fork C\ninit fork D\n",
+        opened: 5,
+        tasks: 4,
+        times: 5,
+    }
+}
+
+/// Two tasks, whose calls no rule denies.
+fn two() -> Crowd {
+    Crowd {
+        opening: "init fork B\n",
+        opened: 1,
+        tasks: 2,
+        times: 10,
+    }
+}
+
+/// Puts the calls and the writes of a task into a script.
+fn put_task(script: &mut Vec<u8>, task: &str, times: u32) -> Result<(), AllocError> {
+    for _ in 0..times {
         for (call, write) in ACTS {
             put(script, task, "", call)?;
             put(script, task, "write ", write)?;
@@ -53,13 +83,11 @@ fn put_task(script: &mut Vec<u8>, task: &str) -> Result<(), AllocError> {
     Ok(())
 }
 
-/// A script of four tasks with the label `A`, whose calls on files are judged by rules.
-fn script<R: AllocGlobal>(rt: &R) -> Result<Vec<u8>, AllocError> {
-    let opening =
-        b"init relabel A\ninit drop mac-override\ninit fork B\ninit fork C\ninit fork D\n";
-    let mut script = Vec::from_slice(rt.alloc(), opening)?;
-    for name in NAMES {
-        put_task(&mut script, name)?;
+/// The script of a crowd.
+fn script<R: AllocGlobal>(rt: &R, crowd: Crowd) -> Result<Vec<u8>, AllocError> {
+    let mut script = Vec::from_slice(rt.alloc(), crowd.opening.as_bytes())?;
+    for name in NAMES.iter().take(crowd.tasks as usize) {
+        put_task(&mut script, name, crowd.times)?;
     }
     Ok(script)
 }
@@ -67,22 +95,26 @@ fn script<R: AllocGlobal>(rt: &R) -> Result<Vec<u8>, AllocError> {
 /// How many turns a task waits for the others.
 const TURNS: u32 = 50_000_000;
 
-/// Lets the tasks go on where all four have come.
+/// Lets the tasks of a crowd go on where all have come.
 #[derive(Drop)]
-struct FourMeet {
+struct AllMeet {
+    crowd: Crowd,
     came: AtomicU32,
     missed: AtomicBool,
 }
 
-impl Gate for FourMeet {
+impl Gate for AllMeet {
     fn before(&self, task: u32, seq: u32) {
-        let first = if task == 0 { 6 } else { 1 };
+        let first = match task {
+            0 => u32::from(self.crowd.opened) + 1,
+            _ => 1,
+        };
         if seq != first {
             return;
         }
         self.came.fetch_add(1, Ordering::SeqCst);
         for _ in 0..TURNS {
-            if self.came.load(Ordering::SeqCst) == 4 {
+            if self.came.load(Ordering::SeqCst) == u32::from(self.crowd.tasks) {
                 return;
             }
             thread::yield_now();
@@ -91,14 +123,16 @@ impl Gate for FourMeet {
     }
 }
 
-/// What a closed kernel hands out after the four tasks have run side by side.
+/// What a closed kernel hands out after the tasks of a crowd have run side by side.
 fn runs<R: Threads + Wait + Sync + AllocGlobal>(
     rt: &R,
+    crowd: Crowd,
     bytes: &[u8],
 ) -> Result<Option<Closed>, Fail> {
     let mut source = CalmSource::new(Vec::from_slice(rt.alloc(), bytes)?);
     let mut sink = CalmSink::new(rt.alloc(), 65_536);
-    let gate = FourMeet {
+    let gate = AllMeet {
+        crowd,
         came: AtomicU32::new(0),
         missed: AtomicBool::new(false),
     };
@@ -211,25 +245,42 @@ fn entries_rise(history: &[Entry], task: u16) -> bool {
     last > 0
 }
 
-/// Whether a run left what the calls of each task come to.
-fn is_right(alloc: Global, closed: &Closed) -> Result<bool, AllocError> {
+/// Whether a run left what the calls of each task of a crowd come to.
+fn is_right(alloc: Global, crowd: Crowd, closed: &Closed) -> Result<bool, AllocError> {
     let journal = closed.journal().items();
     let history = closed.history().items();
-    let mut right = journal.len() == 200 && history.len() == 205;
-    for task in 0..4u16 {
+    let entries = 200 + crowd.opened as usize;
+    let mut right = journal.len() == 200 && history.len() == entries;
+    for task in 0..crowd.tasks {
         right = right && batches_rise(journal, task) && entries_rise(history, task);
     }
     Ok(right && replays(alloc, journal, history)?)
 }
 
+/// Whether a run of a crowd keeps what is right.
+fn runs_rightly<R: Threads + Wait + Sync + AllocGlobal>(
+    rt: &R,
+    crowd: Crowd,
+    bytes: &[u8],
+) -> Result<bool, Fail> {
+    match runs(rt, crowd, bytes)? {
+        Some(closed) => Ok(is_right(rt.alloc(), crowd, &closed)?),
+        None => Ok(false),
+    }
+}
+
 #[test]
 fn four_tasks_at_once(rt: HostRuntime) -> Result<(), Fail> {
-    let bytes = script(&rt)?;
+    let bytes = script(&rt, four())?;
     for _ in 0..ROUNDS {
-        match runs(&rt, bytes.as_slice())? {
-            Some(closed) => assert!(rt; is_right(rt.alloc(), &closed)?),
-            None => panic!(rt; "nothing was kept"),
-        }
+        assert!(rt; runs_rightly(&rt, four(), bytes.as_slice())?);
     }
+    Ok(())
+}
+
+#[test]
+fn two_tasks_at_once(rt: HostRuntime) -> Result<(), Fail> {
+    let bytes = script(&rt, two())?;
+    assert!(rt; runs_rightly(&rt, two(), bytes.as_slice())?);
     Ok(())
 }
