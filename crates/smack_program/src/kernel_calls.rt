@@ -5,13 +5,13 @@ use label_table::Labels;
 use rules_spec::READ;
 use smack_base::{Label, LabelId, Modes, Pid};
 use smack_kernel::{Asked, Called, Kernel, Refusal, Steps, Task, Written};
+use smack_world::{Call, Reply, TaskCall, Why};
 use std::alloc::AllocError;
 use std::marker::Brand;
 use std::process::Abort;
 use std::sync::Wait;
 use std::sync::ledger::{Blank, Ledger};
 use std::test::Fail;
-use smack_world::{Call, Reply, TaskCall, Why};
 
 /// The predefined labels, and `A`, `B` and `Admin`, which have the numbers 5 to 7.
 fn labels(rt: &(impl Abort + AllocGlobal)) -> Result<Labels, Fail> {

@@ -5,11 +5,11 @@ use crate::kernel_calls::{
 };
 use smack_base::Pid;
 use smack_kernel::{Asked, Called, Kernel, Refusal, Task, Written};
+use smack_world::{Call, TaskCall};
 use std::alloc::{AllocError, Global};
 use std::process::Abort;
 use std::sync::Wait;
 use std::test::Fail;
-use smack_world::{Call, TaskCall};
 
 /// A text of so many lines of one label, two bytes each.
 fn revokes(alloc: Global, lines: u32) -> Result<Vec<u8>, AllocError> {
