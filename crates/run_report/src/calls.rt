@@ -7,7 +7,7 @@ use crate::words::{put_label, put_number, put_numbered, put_triple, put_word, ta
 use label_table::Labels;
 use smack_base::{Bytes, Cap, LabelId, Pair, Path};
 use std::alloc::AllocError;
-use world_spec::{Call, Reply, TaskCall, TreeCall, Why};
+use world_spec::{Call, Listing, Reply, TaskCall, TreeCall, Why};
 
 /// Names, each behind a slash.
 fn put_slashed(out: &mut Vec<u8>, names: &[Bytes]) -> Result<(), AllocError>
@@ -20,12 +20,13 @@ fn put_slashed(out: &mut Vec<u8>, names: &[Bytes]) -> Result<(), AllocError>
     Ok(())
 }
 
-/// Names, each a word.
-fn put_names(out: &mut Vec<u8>, names: &[Bytes]) -> Result<(), AllocError>
+/// The names of a listing, each a word.
+fn put_names(out: &mut Vec<u8>, names: &Listing) -> Result<(), AllocError>
     ensures { OnOk result (out.new.items ≡ out.old.items ++ words names.now) }
 {
-    for name in names {
-        put_word(out, name.items())?;
+    let mut left = names.names();
+    while let Some(name) = left.next() {
+        put_word(out, name)?;
     }
     Ok(())
 }
@@ -202,8 +203,8 @@ pub fn put_reply(out: &mut Vec<u8>, reply: &Reply) -> Result<(), AllocError>
         Reply::Names { count, names } => {
             put_word(out, b"names")?;
             put_number(out, u64::from(*count))?;
-            put_number(out, names.items().len() as u64)?;
-            put_names(out, names.items())
+            put_number(out, names.len() as u64)?;
+            put_names(out, names)
         }
         Reply::Denied(case) => put_numbered(out, b"denied", u64::from(*case)),
         Reply::Refused(why) => put_word(out, why_text(*why)),

@@ -96,6 +96,7 @@ fn write_by<R: Wait + AllocGlobal, L: Ledger>(
     kernel.write(rt, rt.alloc(), task, file, text, &mut steps)
 }
 
+/// A task writes a text to a file, at a kernel.
 pub fn write<R: Wait + AllocGlobal>(
     rt: &R,
     kernel: &Kernel,

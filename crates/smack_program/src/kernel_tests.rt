@@ -3,9 +3,9 @@ use crate::run_tests::run_of;
 use outside::{CalmSink, CalmSource, Gate};
 use rule_fold::RuleIndex;
 use rules_spec::Batch;
-use smack_base::{Duplicate, NameList};
+use smack_base::Duplicate;
 use smack_kernel::Closed;
-use smack_world::{Entry, Reply, Stepped, World};
+use smack_world::{Entry, Listing, Reply, Stepped, World};
 use std::alloc::{AllocError, Global};
 use std::process::Abort;
 use std::sync::Wait;
@@ -143,12 +143,15 @@ fn runs<R: Threads + Wait + Sync + AllocGlobal>(
     Ok(kept)
 }
 
-fn are_same_names(one: &NameList, two: &NameList) -> bool {
-    if one.items().len() != two.items().len() {
-        return false;
+fn are_same_names(one: &Listing, two: &Listing) -> bool {
+    let mut these = one.names();
+    let mut those = two.names();
+    for _ in 0..one.len() {
+        if these.next() != those.next() {
+            return false;
+        }
     }
-    let mut pairs = one.items().iter().zip(two.items().iter());
-    pairs.all(|(x, y)| x.items() == y.items())
+    those.next().is_none()
 }
 
 fn is_same(one: &Reply, two: &Reply) -> bool {

@@ -3,10 +3,9 @@ ghost use Rattle.world_spec.specs.Worlds.{names_of, in_byte_order};
 ghost use Rattle.world_spec.specs.Steps.{most_names};
 ghost use Rattle.tree_calls.specs.Shown.{shown};
 
-use smack_base::{Bytes, NameList};
 use std::alloc::{AllocError, Global};
 use std::collections::BTreeSet;
-use world_spec::FileRow;
+use world_spec::{FileRow, Listing};
 
 /// The most names of one listing.
 const MOST_NAMES: usize = 16;
@@ -56,19 +55,19 @@ fn one_listing<'a, 'b>(names: &'b [&'a [u8]]) -> &'b [&'a [u8]]
     }
 }
 
-fn all_names(alloc: Global, names: &[&[u8]]) -> Result<NameList, AllocError>
+fn all_names(alloc: Global, names: &[&[u8]]) -> Result<Listing, AllocError>
     ensures { IfOk result (λ list. list ≡ shown names.now) }
 {
-    let mut list = NameList::new(alloc);
+    let mut list = Listing::new(alloc);
     for name in names {
-        list.push(Bytes::from_slice(alloc, *name)?)?;
+        list.push(*name)?;
     }
     Ok(list)
 }
 
 /// The names of one listing of files, from this place on in byte order.
 #[tactic(auto, using(crate::proofs::Orders::shown_on))]
-pub(crate) fn names_from(alloc: Global, files: &[FileRow], at: u32) -> Result<NameList, AllocError>
+pub(crate) fn names_from(alloc: Global, files: &[FileRow], at: u32) -> Result<Listing, AllocError>
     ensures { IfOk result (λ names. names ≡ take most_names (drop at (in_byte_order (names_of files.now)))) }
 {
     let set = in_order(alloc, files)?;

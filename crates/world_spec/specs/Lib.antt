@@ -3,3 +3,4 @@ pub mod Worlds
 pub mod Questions
 pub mod Steps
 pub mod Replays
+pub mod Listings

@@ -8,10 +8,11 @@
 //! after another from the first world.
 #![tactic(auto)]
 
+mod listing;
+
+pub use listing::{ListedNames, Listing};
 use rules_spec::Checks;
-use smack_base::{
-    Bytes, Cap, Duplicate, Ids, LabelId, Modes, NameList, Pairs, Path, Pid, Sequence,
-};
+use smack_base::{Bytes, Cap, Duplicate, Ids, LabelId, Modes, Pairs, Path, Pid, Sequence};
 use std::alloc::AllocError;
 
 /// A file of the root directory.
@@ -168,7 +169,7 @@ pub enum Reply {
     /// The signal that was taken.
     Signal(u8),
     /// How many names there are, and some of them.
-    Names { count: u32, names: NameList },
+    Names { count: u32, names: Listing },
     /// The question of the last check was denied, by this case.
     Denied(u8),
     /// It was refused.

@@ -1,7 +1,9 @@
-use Rattle.std.proofs.Common.{◌≡◌, ◌++◌, take}
-use Rattle.std.specs.List.{flat_map}
-use Rattle.log_spec.specs.Words.{word}
+use Rattle.std.proofs.Common.{◌≡◌, ◌++◌, length}
+use Rattle.log_spec.specs.Words.{words}
 use Rattle.run_report.proofs.calls.put_names.Given as goal
 
 abbrev pub invariant-loop-name : goal.invariant-loop-name
-invariant-loop-name l = l.out.items ≡ l.fn.out.items ++ flat_map word (take l.name-index l.names)
+invariant-loop-name l = l.out.items ++ words l.left ≡ l.fn.out.items ++ words l.names
+
+abbrev pub decreases-loop-name : goal.decreases-loop-name
+decreases-loop-name l = length l.left
