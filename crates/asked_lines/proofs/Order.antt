@@ -1,8 +1,10 @@
-use Rattle.std.proofs.Common.{◌≡◌, ◌<◌, ◌≤◌, ◌+◌, ℕ, zero, suc, true, false, List, [], ◌∷◌, ◌++◌, length, get_or, set, refl, sym, ap, ◌∙◌, subst, arith, append_assoc, nat_lt, Result, Ok, Err, OnOk, OnErr}
+use Rattle.std.proofs.Common.{◌≡◌, ◌<◌, ◌≤◌, ◌+◌, ℕ, zero, suc, true, false, List, [], ◌∷◌, ◌++◌, length, get_or, set, refl, sym, ap, ◌∙◌, subst, arith, append_assoc, nat_lt, fold, Result, Ok, Err, OnOk, OnErr}
 use Rattle.std.specs.List.{AllByRecursion}
 use Rattle.std.proofs.lemmas.Bool.{lt-ltb, le-ltb}
+use Rattle.std.proofs.lemmas.List.{append-nil, set-set, get_or-set_same}
 use Rattle.record_spec.specs.declared.AskedLine.{AskedLine}
 use Rattle.replay_spec.specs.Replays.{with_asked}
+use Rattle.asked_lines.specs.Blocks.{AreOf}
 use Rattle.asked_lines.specs.ByTask.{all_lines, AreByTask}
 
 low_of : (xs : List AskedLine) (task : ℕ) (a : AskedLine) → AllByRecursion (λ b. b.task ≡ task) xs → task ≤ a.task
@@ -82,8 +84,17 @@ lists_after (Ok u) lists a old new are within is put kept =
 lists_after (Err e) lists a old new are within is put kept =
     subst (λ t. AreByTask 0 t) (sym (ap (λ t. set lists a.task t) (kept ∙ is) ∙ set_same lists a.task old within)) are
 
-pub count_after : (lists : List (List AskedLine)) (at : ℕ) (l : List AskedLine) (n : ℕ) → length lists ≡ n → length (set lists at l) ≡ n
-count_after lists at l n is = set_length lists at l ∙ is
+pub count_after : (lists : List (List AskedLine)) (at : ℕ) (l : List AskedLine) (n : ℕ) → n ≤ length lists → n ≤ length (set lists at l)
+count_after lists at l n low = subst (λ (m : ℕ). n ≤ m) (sym (set_length lists at l)) low
+
+-- one more list, without a line
+pub none_more : (lists : List (List AskedLine)) (task : ℕ) → AreByTask task lists → AreByTask task (lists ++ [] ∷ [])
+none_more [] task are = (tt, tt)
+none_more (l ∷ ls) task are = (are.0, none_more ls (task + 1) are.1)
+
+pub same_lines : (lists : List (List AskedLine)) → all_lines (lists ++ [] ∷ []) ≡ all_lines lists
+same_lines [] = refl
+same_lines (l ∷ ls) = ap (λ t. l ++ t) (same_lines ls)
 
 -- lists without a line
 pub are_empty : (lists : List (List AskedLine)) (task : ℕ) → AllByRecursion (λ l. l ≡ []) lists → AreByTask task lists
@@ -97,3 +108,52 @@ no_lines (l ∷ ls) are = rw are.0 (no_lines ls are.1)
 pub empty_push : (lists : List (List AskedLine)) → AllByRecursion (λ l. l ≡ []) lists → AllByRecursion (λ l. l ≡ []) (lists ++ [] ∷ [])
 empty_push [] are = (refl, tt)
 empty_push (l ∷ ls) are = (are.0, empty_push ls are.1)
+
+-- the same where all lines of one task are put in, one after another
+get_set : (lists : List (List AskedLine)) (at : ℕ) (l none : List AskedLine) → at < length lists → get_or (set lists at l) at none ≡ l
+get_set lists at l none within = get_or-set_same lists at l none within
+
+put_in_all : (xs : List AskedLine) (lists : List (List AskedLine)) (task : ℕ) (none : List AskedLine) → AreByTask 0 lists
+    → task < length lists → AreOf task xs
+    → all_lines (set lists task (get_or lists task none ++ xs)) ≡ fold with_asked (all_lines lists) xs
+put_in_all [] lists task none are within of =
+    ap all_lines (ap (λ t. set lists task t) (append-nil (get_or lists task none)) ∙ set_same lists task none within)
+put_in_all (x ∷ xs) lists task none are within of =
+    let own = get_or lists task none in
+    let more : List (List AskedLine) = set lists task (own ++ x ∷ []) in
+    let low : task < length more = subst (λ (n : ℕ). task < n) (sym (set_length lists task (own ++ x ∷ []))) within in
+    let is : x.task ≡ 0 + task = omega (arith, of.0) in
+    ap all_lines (sym (set-set lists task (own ++ x ∷ []) (own ++ x ∷ xs)))
+    ∙ (ap (λ t. all_lines (set more task t)) (sym (append_assoc own (x ∷ []) xs) ∙ ap (λ t. t ++ xs) (sym (get_set lists task (own ++ x ∷ []) none within)))
+    ∙ (put_in_all xs more task none (are_put lists 0 task x none are within is) low of.1
+    ∙ ap (λ t. fold with_asked t xs) (put_in lists 0 task x none are within is)))
+
+are_put_all : (xs : List AskedLine) (lists : List (List AskedLine)) (task : ℕ) (none : List AskedLine) → AreByTask 0 lists
+    → task < length lists → AreOf task xs → AreByTask 0 (set lists task (get_or lists task none ++ xs))
+are_put_all [] lists task none are within of =
+    subst (AreByTask 0) (sym (ap (λ t. set lists task t) (append-nil (get_or lists task none)) ∙ set_same lists task none within)) are
+are_put_all (x ∷ xs) lists task none are within of =
+    let own = get_or lists task none in
+    let more : List (List AskedLine) = set lists task (own ++ x ∷ []) in
+    let low : task < length more = subst (λ (n : ℕ). task < n) (sym (set_length lists task (own ++ x ∷ []))) within in
+    let is : x.task ≡ 0 + task = omega (arith, of.0) in
+    subst (AreByTask 0)
+    (sym (ap (λ t. set more task t) (sym (append_assoc own (x ∷ []) xs) ∙ ap (λ t. t ++ xs) (sym (get_set lists task (own ++ x ∷ []) none within))))
+    ∙ set-set lists task (own ++ x ∷ []) (own ++ x ∷ xs))
+    (are_put_all xs more task none (are_put lists 0 task x none are within is) low of.1)
+
+pub block_after : {E : Type 0} (r : Result Unit E) (lists : List (List AskedLine)) (task : ℕ) (xs old new : List AskedLine)
+    → AreByTask 0 lists → task < length lists → AreOf task xs → old ≡ get_or lists task old → OnOk r (new ≡ old ++ xs)
+    → OnOk r (all_lines (set lists task new) ≡ fold with_asked (all_lines lists) xs)
+block_after (Ok u) lists task xs old new are within of is put =
+    subst (λ t. all_lines (set lists task t) ≡ fold with_asked (all_lines lists) xs) (sym (put ∙ ap (λ t. t ++ xs) is))
+    (put_in_all xs lists task old are within of)
+block_after (Err e) lists task xs old new are within of is put = tt
+
+pub blocks_after : {E : Type 0} (r : Result Unit E) (lists : List (List AskedLine)) (task : ℕ) (xs old new : List AskedLine)
+    → AreByTask 0 lists → task < length lists → AreOf task xs → old ≡ get_or lists task old → OnOk r (new ≡ old ++ xs)
+    → OnErr r (new ≡ old) → AreByTask 0 (set lists task new)
+blocks_after (Ok u) lists task xs old new are within of is put kept =
+    subst (λ t. AreByTask 0 (set lists task t)) (sym (put ∙ ap (λ t. t ++ xs) is)) (are_put_all xs lists task old are within of)
+blocks_after (Err e) lists task xs old new are within of is put kept =
+    subst (λ t. AreByTask 0 t) (sym (ap (λ t. set lists task t) (kept ∙ is) ∙ set_same lists task old within)) are

@@ -2,7 +2,7 @@ use Rattle.std.specs.Prelude.{◌≡◌, ◌+◌, ℕ, List, [], ◌∷◌}
 use Rattle.std.specs.List.{flat_map, AllByRecursion}
 use Rattle.record_spec.specs.declared.AskedLine.{AskedLine}
 
--- one list for each task that a run can have, and one more
+-- there are at least so many lists: one for each task that a run can have, and one more
 abbrev pub list_count : ℕ
 list_count = 65
 

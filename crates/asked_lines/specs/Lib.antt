@@ -1,1 +1,2 @@
 pub mod ByTask
+pub mod Blocks

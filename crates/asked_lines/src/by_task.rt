@@ -1,13 +1,15 @@
-ghost use Rattle.std.specs.Prelude.{◌≡◌, ◌≤◌, ◌<◌, ◌++◌, [], IfOk, OnOk, OnErr};
+ghost use Rattle.std.specs.Prelude.{◌≡◌, ◌≤◌, ◌<◌, ◌++◌, [], length, fold, IfOk, OnOk, OnErr};
 ghost use Rattle.replay_spec.specs.Replays.{with_asked};
-ghost use Rattle.asked_lines.specs.ByTask.{all_lines, list_count};
+ghost use Rattle.asked_lines.specs.Blocks.{AreOf};
+ghost use Rattle.asked_lines.specs.ByTask.{all_lines, list_count, AreByTask};
 
+use crate::blocks::Block;
 use record_spec::{AskedLine, AskedLines};
 use std::alloc::{AllocError, Global};
 use std::marker::Model;
 use std::mem::replace;
 
-/// How many lists there are: one for each task that a run can have, and one more.
+/// How many lists there are at least: one for each task that a run can have, and one more.
 const LISTS: usize = 65;
 
 /// Asked lines by rising task number, those of one task in the order in which they came.
@@ -17,7 +19,7 @@ pub struct AskedByTask {
 }
 
 impl Model for AskedByTask {
-    ghost use Rattle.std.specs.Prelude.{◌≡◌, List, length};
+    ghost use Rattle.std.specs.Prelude.{◌≡◌, ◌≤◌, List, length};
     ghost use Rattle.record_spec.specs.declared.AskedLine.{AskedLine};
     ghost use Rattle.asked_lines.specs.ByTask.{all_lines, list_count, AreByTask};
 
@@ -25,7 +27,7 @@ impl Model for AskedByTask {
 
     ghost view = { λ a. all_lines a.lists.items };
 
-    ghost invariant = { λ a. (length a.lists.items ≡ list_count) × AreByTask 0 a.lists.items };
+    ghost invariant = { λ a. (list_count ≤ length a.lists.items) × AreByTask 0 a.lists.items };
 }
 
 impl AskedByTask {
@@ -50,22 +52,61 @@ impl AskedByTask {
         self.lists[line.task as usize].push(line)
     }
 
-    /// The lines as one list.
+    /// Puts the lines of a block behind those of its task. Where its task has no lines yet they stay
+    /// where they are.
+    pub(crate) fn put_block(&mut self, block: Block) -> Result<(), AllocError>
+        requires lines { AreOf block.task block.lines }
+        ensures { OnOk result (self.new ≡ fold with_asked self.old block.lines) }
+    {
+        let Block { task, lines } = block;
+        reach(&mut self.lists, task)?;
+        append(&mut self.lists[task as usize], lines)
+    }
+
+    /// The lines as one list. Where one task has them all they stay where they are.
     pub fn into_lines(self, alloc: Global) -> Result<AskedLines, AllocError>
         ensures { IfOk result (λ lines. lines ≡ self) }
     {
         let AskedByTask { lists } = self;
+        let count = line_count(lists.as_slice());
         let mut lines = AskedLines::new(alloc);
         for list in lists {
             append(&mut lines, list)?;
+            lines.reserve(count.saturating_sub(lines.items().len()))?;
         }
         Ok(lines)
     }
 }
 
-/// Puts lines behind others. Where there are no others they stay where they are.
-pub fn append(lines: &mut AskedLines, more: AskedLines) -> Result<(), AllocError>
-    ensures { OnOk result (lines.new ≡ lines.old ++ more) }
+/// Puts empty lists behind those of lower tasks until a task has one.
+fn reach(lists: &mut Vec<AskedLines>, task: u16) -> Result<(), AllocError>
+    requires { AreByTask 0 lists.old.items }
+    ensures are { AreByTask 0 lists.new.items }
+    ensures same { all_lines lists.new.items ≡ all_lines lists.old.items }
+    ensures longer { length lists.old.items ≤ length lists.new.items }
+    ensures reached { OnOk result (task < length lists.new.items) }
+{
+    while lists.len() <= task as usize {
+        let none = AskedLines::new(*lists.allocator());
+        lists.push(none)?;
+    }
+    Ok(())
+}
+
+/// How many lines lists have, for the memory that they take as one.
+fn line_count(lists: &[AskedLines]) -> usize {
+    let mut count: usize = 0;
+    for list in lists {
+        count = count.saturating_add(list.items().len());
+    }
+    count
+}
+
+/// Puts lines behind others. Where there are no others they stay where they are. On want of memory
+/// the others are as before.
+fn append(lines: &mut AskedLines, more: AskedLines) -> Result<(), AllocError>
+    ensures ok { OnOk result (lines.new ≡ lines.old ++ more) }
+    ensures err { OnErr result (lines.new ≡ lines.old) }
 {
     if lines.items().is_empty() {
         *lines = more;
@@ -74,7 +115,7 @@ pub fn append(lines: &mut AskedLines, more: AskedLines) -> Result<(), AllocError
     let mut more = more.into_vec();
     let none = AskedLines::new(*more.allocator());
     let mut all = replace(lines, none).into_vec();
-    all.append(&mut more)?;
+    let appended = all.append(&mut more);
     *lines = AskedLines::from_vec(all);
-    Ok(())
+    appended
 }

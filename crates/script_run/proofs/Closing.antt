@@ -1,5 +1,5 @@
 -- The end of a run: its first task may close the kernel, and the record is legal for the script and plain.
-use Rattle.std.proofs.Common.{◌≡◌, ℕ, Bool, false, List, [], Option, Some, is_some, IfSome, sym, subst}
+use Rattle.std.proofs.Common.{◌≡◌, ℕ, Bool, false, List, [], Option, Some, is_some, IfSome, refl, sym, subst}
 use Rattle.atomic_table.specs.Seated.{TableId}
 use Rattle.script_spec.specs.Lines.{ScriptLine, table_of}
 use Rattle.record_spec.specs.declared.AskedLine.{AskedLine}
@@ -16,8 +16,9 @@ use Rattle.legal_runs.proofs.Whole.{runs_are_whole}
 use Rattle.legal_runs.proofs.LegalFor.{runs_are_legal_for_scripts}
 use Rattle.legal_runs.proofs.Plain.{runs_are_plain}
 use Rattle.legal_runs.proofs.Room.{runs_have_room}
+use Rattle.legal_runs.proofs.Orders.{scripts_are_orderly}
 use Rattle.script_run.specs.Closings.{IsScript, HasRun}
-use Rattle.script_run.specs.Stops.{IsCause, IsStopOfScript}
+use Rattle.script_run.specs.Stops.{IsCause}
 use Rattle.script_run.specs.declared.making.Stop.{Stop}
 use Rattle.script_run.specs.declared.making.Stop.TheVariants as stops
 
@@ -50,7 +51,7 @@ pub stop_of_script : (lines : List ScriptLine) (read : IsScript lines) (stop : O
     (asked : List AskedLine) (labels : List (List ℕ)) (closed : ClosedValue) → v ≡ first_task table
     → Ran (is_some stop) (scripted lines) (lines_by 0 lines) [] v w [] asked
     → IfSome stop (IsCause (scripted lines) (lines_by 0 lines) v w) → stop ≡ Some why → labels ≡ table_of lines → Closes labels w closed
-    → IsStopOfScript why
+    → why ≡ stops.Memory
 stop_of_script lines read stop why table v w asked labels closed first ran cause is named closes =
     by why (subst (λ (o : Option Stop). IfSome o (IsCause (scripted lines) (lines_by 0 lines) (first_task table) w)) is
     (subst (λ (u : TaskValue). IfSome stop (IsCause (scripted lines) (lines_by 0 lines) u w)) first cause))
@@ -60,12 +61,13 @@ stop_of_script lines read stop why table v w asked labels closed first ran cause
   where
     by : (x : Stop) → IsCause (scripted lines) (lines_by 0 lines) (first_task table) w x
         → (IsOutOfEntries (scripted lines) (lines_by 0 lines) (first_task table) w → ⊥) × (IsOutOfCalls (scripted lines) w → ⊥)
-        × (HasForkedNone w → ⊥) → IsStopOfScript x
-    by stops.Memory c room = tt
-    by stops.TrailFull c room = room.0 c
-    by stops.NoChild c room = room.2 c
-    by stops.SeqFull c room = room.1 c
-    by stops.Unscripted c room = tt
+        × (HasForkedNone w → ⊥) → x ≡ stops.Memory
+    by stops.Memory c room = refl
+    by stops.TrailFull c room = absurd (room.0 c)
+    by stops.NoChild c room = absurd (room.2 c)
+    by stops.SeqFull c room = absurd (room.1 c)
+    by stops.Unscripted c room =
+        let orderly = scripts_are_orderly read.0 lines read.1 in absurd (c orderly (orderly 0))
 
 -- a worker that did not stop ran all lines
 pub has_run : (lines : List ScriptLine) (stop : Bool) (table : TableId) (v w : TaskValue) (asked : List AskedLine) (labels : List (List ℕ))

@@ -12,12 +12,14 @@ use Rattle.smack_kernel.specs.Answers.{IsTrailFull, IsSeqFull, IsCalled, IsForke
 use Rattle.smack_kernel.specs.declared.turns.Entered.{Entered}
 use Rattle.smack_kernel.specs.declared.kernel.Called.{Called}
 use Rattle.smack_kernel.specs.declared.kernel.Called.TheVariants as calls
-use Rattle.task_runs.specs.Scripts.{Scripted, scripted, lines_by, segment}
+use Rattle.task_runs.specs.Scripts.{Scripted, scripted, ForksTask, lines_by, segment}
 use Rattle.task_runs.specs.Runs.{Went, Ran}
 use Rattle.task_runs.specs.Stops.{IsOutOfEntries, IsOutOfCalls}
+use Rattle.task_runs.specs.Orders.{IsOrderly, NoneWaits}
 use Rattle.task_runs.proofs.Stops.{out_here, none_here, out_then, out_mine, out_theirs, none_mine, none_theirs, calls_mine, calls_theirs}
 use Rattle.task_runs.proofs.Segments.{cut, from_here}
 use Rattle.script_run.specs.Stops.{IsCause, IsOwnStop, IsMeetCause, without_child}
+use Rattle.script_run.proofs.Orders.{fork_mine}
 use Rattle.script_run.specs.declared.making.Stop.{Stop}
 use Rattle.script_run.specs.declared.making.Stop.TheVariants as stops
 
@@ -50,15 +52,16 @@ memory_cause s ls v w (Some x) m = subst (IsCause s ls v w) (sym m) tt
 
 -- behind lines that were run
 pub cause_then : (s : Scripted) (ls mid mid' : List ScriptLine) (v u w : TaskValue) (x y : List AskedLine) (stop : Option Stop)
-    → Ran false s ls mid v u x y → mid ≡ mid' → IfSome stop (IsCause s mid' u w) → IfSome stop (IsCause s ls v w)
-cause_then s ls mid mid' v u w x y None ran e cause = tt
-cause_then s ls mid mid' v u w x y (Some stops.Memory) ran e cause = tt
-cause_then s ls mid mid' v u w x y (Some stops.TrailFull) ran e cause =
+    → Ran false s ls mid v u x y → mid ≡ mid' → (IsOrderly s ls → IsOrderly s mid) → IfSome stop (IsCause s mid' u w)
+    → IfSome stop (IsCause s ls v w)
+cause_then s ls mid mid' v u w x y None ran e on cause = tt
+cause_then s ls mid mid' v u w x y (Some stops.Memory) ran e on cause = tt
+cause_then s ls mid mid' v u w x y (Some stops.TrailFull) ran e on cause =
     out_then s ls mid v u w (subst (λ (rest : List ScriptLine). Went true s ls rest v u) (ran.on refl) ran.went)
     (subst (λ (rest : List ScriptLine). IsOutOfEntries s rest u w) (sym e) cause)
-cause_then s ls mid mid' v u w x y (Some stops.NoChild) ran e cause = cause
-cause_then s ls mid mid' v u w x y (Some stops.SeqFull) ran e cause = cause
-cause_then s ls mid mid' v u w x y (Some stops.Unscripted) ran e cause = tt
+cause_then s ls mid mid' v u w x y (Some stops.NoChild) ran e on cause = cause
+cause_then s ls mid mid' v u w x y (Some stops.SeqFull) ran e on cause = cause
+cause_then s ls mid mid' v u w x y (Some stops.Unscripted) ran e on cause = λ all is. cause all (subst (IsOrderly s) e (on is))
 
 same_stop : (P : Stop → Type 0) (stop : Option Stop) (x : Stop) → stop ≡ Some x → IfSome stop P → P x
 same_stop P stop x e p = subst (λ (o : Option Stop). IfSome o P) e p
@@ -69,7 +72,8 @@ module _ (s : Scripted) (p : ℕ) (child : Pid) (at until to last : ℕ) (l : Sc
     (high : to ≤ length s.lines) (end : last ≡ length s.lines) (first : lines_by child.0 (take at s.lines) ≡ [])
     (call_ : Calls v u (Task (Fork child)) r) (is_child : r.reply ≡ Child c.number) (st : Starts u c c.number)
     (mine_ran : Ran a s (segment p at until s.lines) [] u u' asked mine_asked) (their_ran : Ran b s (segment child.0 at last s.lines) [] c c' [] told)
-    (my_cause : IfSome mine (IsCause s (segment p at until s.lines) u u')) (their_cause : IfSome theirs (IsCause s (segment child.0 at last s.lines) c c')) where
+    (my_cause : IfSome mine (IsCause s (segment p at until s.lines) u u')) (their_cause : IfSome theirs (IsCause s (segment child.0 at last s.lines) c c'))
+    (forks : ForksTask s l child.0) (none : NoneWaits s.names child (segment p at until s.lines)) where
   all_lines : segment child.0 at last s.lines ≡ lines_by child.0 s.lines
   all_lines = ap (λ (n : ℕ). segment child.0 at n s.lines) end ∙ from_here child.0 at s.lines (omega (arith, low, mid, high)) first
 
@@ -86,7 +90,7 @@ module _ (s : Scripted) (p : ℕ) (child : Pid) (at until to last : ℕ) (l : Sc
   of_mine stops.TrailFull d cause = out_mine s u' c' w d l (segment p at until s.lines) (segment p at to s.lines) v u call_.made fewer cause
   of_mine stops.NoChild d cause = none_mine s u' c' w d cause
   of_mine stops.SeqFull d cause = calls_mine s u' c' w d cause
-  of_mine stops.Unscripted d cause = tt
+  of_mine stops.Unscripted d cause = λ all is. cause all (fork_mine s p child at until to l low mid high forks none is)
 
   went : Went (not b) s (lines_by child.0 s.lines) their_ran.left c c'
   went = subst (λ (ls : List ScriptLine). Went (not b) s ls their_ran.left c c') all_lines their_ran.went
@@ -99,7 +103,7 @@ module _ (s : Scripted) (p : ℕ) (child : Pid) (at until to last : ℕ) (l : Sc
   of_theirs stops.NoChild d cause = none_theirs s u' c' w d cause
   of_theirs stops.SeqFull d cause =
       calls_theirs s u' c' w d (not b) their_ran.left v u c child r call_ is_child st mine_ran.went.history went cause
-  of_theirs stops.Unscripted d cause = tt
+  of_theirs stops.Unscripted d cause = λ all is. cause all (subst (IsOrderly s) (sym all_lines) (all child.0))
 
   of_meeting : (stop : Stop) → IsOwnStop w stop → IsCause s (l ∷ segment p at to s.lines) v w stop
   of_meeting stops.Memory own = tt

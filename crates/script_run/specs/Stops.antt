@@ -5,6 +5,7 @@ use Rattle.smack_kernel.specs.declared.kernel.Called.{Called}
 use Rattle.smack_kernel.specs.declared.kernel.Called.TheVariants as called
 use Rattle.task_runs.specs.Scripts.{Scripted}
 use Rattle.task_runs.specs.Stops.{IsOutOfEntries, IsOutOfCalls, HasForkedNone}
+use Rattle.task_runs.specs.Orders.{IsDisorderly}
 use Rattle.script_run.specs.declared.making.Stop.{Stop}
 use Rattle.script_run.specs.declared.making.Stop.TheVariants.{Memory, TrailFull, NoChild, SeqFull, Unscripted}
 
@@ -14,7 +15,7 @@ IsCause s ls v w Memory = Unit {0}
 IsCause s ls v w TrailFull = IsOutOfEntries s ls v w
 IsCause s ls v w NoChild = HasForkedNone w
 IsCause s ls v w SeqFull = IsOutOfCalls s w
-IsCause s ls v w Unscripted = Unit {0}
+IsCause s ls v w Unscripted = IsDisorderly s ls
 
 -- why a fork has no child
 abbrev pub without_child : Called → Stop
@@ -39,11 +40,3 @@ IsOwnStop w Unscripted = ⊥
 abbrev pub IsMeetCause : Option Stop → Option Stop → TaskValue → TaskValue → TaskValue → Stop → Type 0
 IsMeetCause mine theirs u c w stop =
     ((mine ≡ Some stop) × Adopts u c w) ⊎ (((theirs ≡ Some stop) × Adopts u c w) ⊎ IsOwnStop w stop)
-
--- a stop that may be that of a script's run
-abbrev pub IsStopOfScript : Stop → Type 0
-IsStopOfScript Memory = Unit {0}
-IsStopOfScript TrailFull = ⊥
-IsStopOfScript NoChild = ⊥
-IsStopOfScript SeqFull = ⊥
-IsStopOfScript Unscripted = Unit {0}

@@ -13,6 +13,7 @@
 mod making;
 mod running;
 mod stage;
+mod waits;
 mod workers;
 
 pub use making::Stop;

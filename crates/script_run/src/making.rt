@@ -1,5 +1,6 @@
 ghost use Rattle.std.specs.Prelude.{◌≡◌, ◌≤◌, ◌<◌, ◌+◌, [], ◌∷◌, ◌++◌, ℕ, List, length, Some, is_some, IfSome};
 ghost use Rattle.std.specs.Bool.{OnFalse};
+ghost use Rattle.smack_base.specs.declared.ids.Pid.{Pid};
 ghost use Rattle.script_spec.specs.Lines.{ScriptLine, word_in, verb_in};
 ghost use Rattle.script_spec.specs.declared.Verb.TheVariants as verbs;
 ghost use Rattle.script_text.specs.Lines.{call_seen};
@@ -12,7 +13,7 @@ ghost use Rattle.script_run.specs.declared.making.Stop.TheVariants as stops;
 ghost use Rattle.script_acts.specs.declared.acts.Act.TheVariants as acts;
 
 use crate::stage::{ScriptLines, Stage};
-use asked_lines::{AskedLine, AskedLines, AskedWhat};
+use asked_lines::{AskedBlocks, AskedLine, AskedWhat};
 use script_acts::Act;
 use script_calls::words_of;
 use script_text::Line;
@@ -36,13 +37,13 @@ pub enum Stop {
     NoChild,
     /// A task has made 1,048,575 calls.
     SeqFull,
-    /// A line that stands in no script: its words are not of their kinds, or it waits for none of its
-    /// task's children.
+    /// A line that stands in no script: its words are not of their kinds or not known, or it waits for
+    /// another task than the latest open child of its own.
     Unscripted,
 }
 
 /// One more line that is neither a batch nor an object call.
-pub fn note(asked: &mut AskedLines, line: AskedLine) -> Option<Stop>
+pub fn note(asked: &mut AskedBlocks, line: AskedLine) -> Option<Stop>
     ensures line { OnFalse (is_some result) (asked.new ≡ asked.old ++ line ∷ []) }
     ensures stop { IfSome result (λ stop. stop ≡ stops.Memory) }
 {
@@ -57,7 +58,7 @@ fn ask_line<S: ScriptLines, L: Ledger>(
     alloc: Global,
     stage: Stage<'_, S>,
     task: &mut Task,
-    asked: &mut AskedLines,
+    asked: &mut AskedBlocks,
     line: &Line<'_>,
     question: (LabelId, LabelId, Modes),
     steps: &mut Steps<L>,
@@ -89,7 +90,7 @@ fn ask_line<S: ScriptLines, L: Ledger>(
 /// Keeps the line of a refused write.
 fn refuse(
     alloc: Global,
-    asked: &mut AskedLines,
+    asked: &mut AskedBlocks,
     line: &Line<'_>,
     call: (u16, u32, u32),
     fault: Refusal,
@@ -118,7 +119,7 @@ fn write_line<R: Wait, S: ScriptLines, L: Ledger>(
     alloc: Global,
     stage: Stage<'_, S>,
     task: &mut Task,
-    asked: &mut AskedLines,
+    asked: &mut AskedBlocks,
     line: &Line<'_>,
     steps: &mut Steps<L>,
 ) -> Option<Stop>
@@ -152,7 +153,7 @@ fn make_line<R: Wait, S: ScriptLines, L: Ledger>(
     alloc: Global,
     stage: Stage<'_, S>,
     task: &mut Task,
-    asked: &mut AskedLines,
+    asked: &mut AskedBlocks,
     line: &Line<'_>,
     call: Call,
     steps: &mut Steps<L>,
@@ -177,7 +178,7 @@ fn line_by<R: Wait, S: ScriptLines, L: Ledger>(
     alloc: Global,
     stage: Stage<'_, S>,
     task: &mut Task,
-    asked: &mut AskedLines,
+    asked: &mut AskedBlocks,
     line: &Line<'_>,
     act: Act,
     blank: Blank,
@@ -186,6 +187,7 @@ fn line_by<R: Wait, S: ScriptLines, L: Ledger>(
     requires table { task.old.table ≡ stage.kernel.now.table }
     requires top { task.old.version ≤ length task.old.journal }
     requires act { IsAct stage.kernel.now.labels stage.names.now (call_seen line.now) act }
+    requires plain { (pid : Pid) → act ≡ acts.Fork pid → ⊥ }
     ensures ran { (ls : List ScriptLine) → Ran (is_some result) (script_of S.told stage.entry) (call_seen line.now ∷ ls) ls task.old task.new asked.old asked.new }
     ensures cause { (ls : List ScriptLine) → IfSome result (IsCause (script_of S.told stage.entry) (call_seen line.now ∷ ls) task.old task.new) }
 {
@@ -205,13 +207,14 @@ pub fn plain_line<R: Wait, S: ScriptLines>(
     alloc: Global,
     stage: Stage<'_, S>,
     task: &mut Task,
-    asked: &mut AskedLines,
+    asked: &mut AskedBlocks,
     line: &Line<'_>,
     act: Act,
 ) -> Option<Stop>
     requires table { task.old.table ≡ stage.kernel.now.table }
     requires top { task.old.version ≤ length task.old.journal }
     requires act { IsAct stage.kernel.now.labels stage.names.now (call_seen line.now) act }
+    requires plain { (pid : Pid) → act ≡ acts.Fork pid → ⊥ }
     ensures ran { (ls : List ScriptLine) → Ran (is_some result) (script_of S.told stage.entry) (call_seen line.now ∷ ls) ls task.old task.new asked.old asked.new }
     ensures cause { (ls : List ScriptLine) → IfSome result (IsCause (script_of S.told stage.entry) (call_seen line.now ∷ ls) task.old task.new) }
 {

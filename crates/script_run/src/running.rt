@@ -1,18 +1,17 @@
-ghost use Rattle.std.specs.Prelude.{◌≡◌, ℕ, List, [], Ok, fold, IfOk, IfErr};
+ghost use Rattle.std.specs.Prelude.{◌≡◌, ℕ, List, Ok, IfOk, IfErr};
 ghost use Rattle.script_spec.specs.Grammar.{parse};
 ghost use Rattle.script_spec.specs.Lines.{table_of};
-ghost use Rattle.replay_spec.specs.Replays.{with_asked};
 ghost use Rattle.replay_spec.specs.Plain.{IsPlain};
 ghost use Rattle.legal_spec.specs.Fits.{IsLegalFor};
 ghost use Rattle.legal_runs.specs.Laws.{run_record};
 ghost use Rattle.script_run.specs.Closings.{HasRun, IsScript};
-ghost use Rattle.script_run.specs.Stops.{IsStopOfScript};
+ghost use Rattle.script_run.specs.declared.making.Stop.TheVariants as stops;
 
 use crate::making::Stop;
 use crate::workers::{Worked, work};
-use asked_lines::AskedByTask;
+use asked_lines::AskedBlocks;
 use outside::Gate;
-use record_spec::{AskedLines, RunRecord};
+use record_spec::RunRecord;
 use script_calls::names_of;
 use script_text::Script;
 use smack_base::{Duplicate, Pid};
@@ -21,9 +20,6 @@ use std::alloc::{AllocError, Global};
 use std::sync::Wait;
 use std::thread::Threads;
 
-/// The most tasks of a kernel.
-const MOST_TASKS: u16 = 64;
-
 /// A script that was run: its record, and what the closed kernel of its tasks handed out.
 #[derive(Drop)]
 pub struct Ran {
@@ -31,32 +27,18 @@ pub struct Ran {
     pub closed: Closed,
 }
 
-/// The lines by rising task, those of one task in the order in which they came.
-fn by_task(alloc: Global, asked: AskedLines) -> Result<AskedLines, AllocError>
-    ensures { IfOk result (λ lines. lines ≡ fold with_asked [] asked) }
-{
-    let mut lines = AskedByTask::new(alloc)?;
-    for line in asked.into_vec() {
-        if line.task > MOST_TASKS {
-            return Err(AllocError);
-        }
-        lines.put(line)?;
-    }
-    lines.into_lines(alloc)
-}
-
 /// Runs the tasks of a script at a kernel of their own, and closes it: what it hands out, and the
-/// asked, refused and waited lines. Where it cannot, it says why. A script's tasks find room for each
-/// of their calls, and each of their forks makes a task.
+/// asked, refused and waited lines. Where it cannot, memory is short: a script's tasks find room for
+/// each of their calls, each of their forks makes a task, and each of their lines can be run.
 fn close_run<R: Threads + Wait + Sync, G: Gate + Sync>(
     rt: &R,
     alloc: Global,
     script: &Script<'_>,
     gate: &G,
-) -> Result<(Closed, AskedLines), Stop>
+) -> Result<(Closed, AskedBlocks), Stop>
     requires read { IsScript script.now }
     ensures has_run { IfOk result (λ r. HasRun script.now r.0 r.1) }
-    ensures stop { IfErr result IsStopOfScript }
+    ensures stop { IfErr result (λ stop. stop ≡ stops.Memory) }
 {
     let Ok(labels) = script.labels() else {
         return Err(Stop::Memory);
@@ -79,7 +61,7 @@ fn report_of(
     alloc: Global,
     script: &Script<'_>,
     closed: &Closed,
-    asked: AskedLines,
+    asked: AskedBlocks,
 ) -> Result<RunRecord, AllocError>
     ensures { IfOk result (λ r. r ≡ record (run_record script.now closed.now asked) { labels = closed.now.labels }) }
 {
@@ -88,7 +70,7 @@ fn report_of(
         names: names_of(alloc, script.tasks())?,
         journal: closed.journal().copy()?,
         history: closed.history().copy()?,
-        asked: by_task(alloc, asked)?,
+        asked: asked.by_task(alloc)?,
     })
 }
 

@@ -1,16 +1,20 @@
-ghost use Rattle.std.specs.Prelude.{◌≡◌, ◌≤◌, ◌<◌, ◌+◌, [], ◌∷◌, ℕ, List, length, map, MatchOption, IfSome};
+ghost use Rattle.std.specs.Prelude.{◌≡◌, ◌≤◌, ◌<◌, ◌+◌, [], ◌∷◌, ℕ, List, length, take, drop, map, MatchOption, IfOk, IfSome};
 ghost use Rattle.script_spec.specs.Grammar.{most_tasks};
 ghost use Rattle.script_spec.specs.Lines.{ScriptLine};
 ghost use Rattle.script_text.specs.Lines.{call_seen};
 ghost use Rattle.legal_spec.specs.Calls.{Stands};
 ghost use Rattle.task_runs.specs.Scripts.{segment};
+ghost use Rattle.task_runs.specs.Orders.{NoneWaits};
 ghost use Rattle.script_acts.specs.Places.{IsWaitAt};
+ghost use Rattle.script_run.specs.Waits.{AreNoWaits};
 
+use crate::waits::{least_between, wait_places};
 use script_acts::{line_between, wait_between};
-use script_text::{Line, Script};
+use script_text::Line;
 use smack_base::{Bytes, Pid};
 use smack_kernel::Kernel;
-use std::alloc::AllocError;
+use std::alloc::{AllocError, Global};
+use std::marker::Model;
 
 /// The calls of a script, as workers see them. They know the script by this trait alone, since a
 /// closure that is joined loses its contract where the type of what it captures names a lifetime.
@@ -21,13 +25,55 @@ pub trait ScriptLines {
     /// Its calls, in written order.
     fn calls(&self) -> &[Line<'_>]
         ensures { map call_seen result.now ≡ told self.now };
+
+    /// The place of the first call between two places that waits for a task; the second place where
+    /// none does.
+    fn next_wait(&self, from: usize, to: usize) -> usize
+        requires { from ≤ to }
+        ensures place { (from ≤ result) × (result ≤ to) }
+        ensures none { AreNoWaits (drop from (take result (told self.now))) };
 }
 
-impl<'a> ScriptLines for Script<'a> {
-    ghost told = { λ script. script };
+/// The calls of a script, with the places of those that wait for a task, so that a fork need not look
+/// through all calls for the one that waits for its child. A contract sees the list of the calls.
+#[derive(Drop)]
+pub struct PlacedLines<'a> {
+    lines: &'a [Line<'a>],
+    waits: Vec<usize>,
+}
+
+impl<'a> Model for PlacedLines<'a> {
+    ghost use Rattle.std.specs.Prelude.{◌≡◌, List, map};
+    ghost use Rattle.script_spec.specs.Lines.{ScriptLine};
+    ghost use Rattle.script_text.specs.Lines.{call_seen};
+    ghost use Rattle.script_run.specs.Waits.{waits_from};
+
+    ghost Value = { List ScriptLine };
+
+    ghost view = { λ p. map call_seen p.lines.now };
+
+    ghost invariant = { λ p. p.waits.items ≡ waits_from 0 (map call_seen p.lines.now) };
+}
+
+impl<'a> PlacedLines<'a> {
+    /// These calls, with the places.
+    pub fn new(alloc: Global, lines: &'a [Line<'a>]) -> Result<PlacedLines<'a>, AllocError>
+        ensures { IfOk result (λ placed. placed ≡ map call_seen lines.now) }
+    {
+        let waits = wait_places(alloc, lines)?;
+        Ok(PlacedLines { lines, waits })
+    }
+}
+
+impl<'a> ScriptLines for PlacedLines<'a> {
+    ghost told = { λ lines. lines };
 
     fn calls(&self) -> &[Line<'_>] {
-        self.lines()
+        self.lines
+    }
+
+    fn next_wait(&self, from: usize, to: usize) -> usize {
+        least_between(self.waits.as_slice(), from, to)
     }
 }
 
@@ -83,6 +129,8 @@ pub fn wait_place<S: ScriptLines>(
     requires place { (from ≤ to) × (to ≤ length (S.told stage.script.now)) }
     ensures place { (from ≤ result) × (result ≤ to) }
     ensures line { result < to → IsWaitAt stage.entry.names.now (S.told stage.entry.script.now) pid child result to }
+    ensures none { NoneWaits stage.entry.names.now child (segment pid from result (S.told stage.entry.script.now)) }
 {
-    wait_between(stage.names, stage.script.calls(), pid, child, from, to)
+    let first = stage.script.next_wait(from, to);
+    wait_between(stage.names, stage.script.calls(), pid, child, first, to)
 }

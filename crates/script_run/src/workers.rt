@@ -7,15 +7,17 @@ ghost use Rattle.legal_spec.specs.Calls.{Stands};
 ghost use Rattle.task_runs.specs.Scripts.{scripted, ForksTask, ForksFirst, segment, lines_by};
 ghost use Rattle.task_runs.specs.Runs.{Ran};
 ghost use Rattle.task_runs.specs.Meetings.{Met};
+ghost use Rattle.task_runs.specs.Orders.{IsOrderly};
 ghost use Rattle.script_acts.specs.Acts.{IsAct};
 ghost use Rattle.script_run.specs.Shared.{script_in};
 ghost use Rattle.script_run.specs.Stages.{script_of, IsForked, IsAwaited};
 ghost use Rattle.script_run.specs.Stops.{IsCause, IsForkCause, IsOwnStop, IsMeetCause, without_child};
 ghost use Rattle.script_run.specs.declared.making.Stop.TheVariants as stops;
+ghost use Rattle.script_acts.specs.declared.acts.Act.TheVariants as acts;
 
 use crate::making::{Stop, note, plain_line};
-use crate::stage::{ScriptLines, Stage, count, next_line, wait_place};
-use asked_lines::{AskedLine, AskedLines, AskedWhat, append};
+use crate::stage::{PlacedLines, ScriptLines, Stage, count, next_line, wait_place};
+use asked_lines::{AskedBlocks, AskedLine, AskedWhat};
 use outside::Gate;
 use script_acts::{Act, act_of};
 use script_calls::names_of;
@@ -33,7 +35,7 @@ use std::thread::{Threads, join};
 #[derive(Drop)]
 pub struct Worked {
     pub task: Task,
-    pub asked: AskedLines,
+    pub asked: AskedBlocks,
     pub stop: Option<Stop>,
 }
 
@@ -99,8 +101,8 @@ fn fork<R: Wait>(
 /// The asked lines of both halves of a fork, put together; or what stopped a half, or that memory for
 /// them is short.
 fn gather(
-    asked: &mut AskedLines,
-    more: AskedLines,
+    asked: &mut AskedBlocks,
+    more: AskedBlocks,
     stop: Option<Stop>,
     failed: Option<Stop>,
 ) -> Option<Stop>
@@ -113,14 +115,14 @@ fn gather(
     if failed.is_some() {
         return failed;
     }
-    match append(asked, more) {
+    match asked.append(more) {
         Ok(()) => None,
         Err(_) => Some(Stop::Memory),
     }
 }
 
 /// Runs the line by which a task waits for a child that it has adopted.
-fn wait_line(kernel: &Kernel, task: &mut Task, asked: &mut AskedLines, child: Pid) -> Option<Stop>
+fn wait_line(kernel: &Kernel, task: &mut Task, asked: &mut AskedBlocks, child: Pid) -> Option<Stop>
     requires table { task.old.table ≡ kernel.now.table }
     ensures awaited { IsAwaited task.old task.new child (is_some result) asked.old asked.new }
     ensures cause { IfSome result (IsOwnStop task.new) }
@@ -185,7 +187,7 @@ fn plain_step<R: Wait, S: ScriptLines>(
     alloc: Global,
     stage: Stage<'_, S>,
     mut task: Task,
-    mut asked: AskedLines,
+    mut asked: AskedBlocks,
     line: &Line<'_>,
     act: Act,
     at: usize,
@@ -193,9 +195,11 @@ fn plain_step<R: Wait, S: ScriptLines>(
     requires table { task.table ≡ stage.kernel.now.table }
     requires top { task.version ≤ length task.journal }
     requires act { IsAct stage.kernel.now.labels stage.names.now (call_seen line.now) act }
+    requires plain { (pid : Pid) → act ≡ acts.Fork pid → ⊥ }
     ensures ran { (ls : List ScriptLine) → Ran (is_some result.worked.stop) (script_of S.told stage.entry) (call_seen line.now ∷ ls) ls task result.worked.task asked result.worked.asked }
     ensures cause { (ls : List ScriptLine) → IfSome result.worked.stop (IsCause (script_of S.told stage.entry) (call_seen line.now ∷ ls) task result.worked.task) }
     ensures at { result.at ≡ at }
+    ensures orderly { (ls : List ScriptLine) → IsOrderly (script_of S.told stage.entry) (call_seen line.now ∷ ls) → IsOrderly (script_of S.told stage.entry) ls }
 {
     let stop = plain_line(rt, alloc, stage, &mut task, &mut asked, line, act);
     Reached {
@@ -214,7 +218,7 @@ fn go_by_parts<R: Threads + Wait + Sync, G: Gate + Sync, S: ScriptLines + Sync>(
     names: &[Bytes],
     script: &S,
     task: Task,
-    asked: AskedLines,
+    asked: AskedBlocks,
     pid: u16,
     from: usize,
     to: usize,
@@ -243,7 +247,7 @@ fn halves<R: Threads + Wait + Sync, G: Gate + Sync, S: ScriptLines + Sync>(
     gate: &G,
     stage: Stage<'_, S>,
     task: Task,
-    asked: AskedLines,
+    asked: AskedBlocks,
     kid: Task,
     pid: u16,
     child: u16,
@@ -281,7 +285,7 @@ fn halves<R: Threads + Wait + Sync, G: Gate + Sync, S: ScriptLines + Sync>(
             ensures ran { Ran (is_some result.stop) (script_in kernel.entry.now.labels names.entry.now (S.told script.entry.now)) (segment child at (length (S.told script.entry.now)) (S.told script.entry.now)) [] kid result.task [] result.asked }
             ensures cause { IfSome result.stop (IsCause (script_in kernel.entry.now.labels names.entry.now (S.told script.entry.now)) (segment child at (length (S.told script.entry.now)) (S.told script.entry.now)) kid result.task) }
         {
-            let asked = AskedLines::new(alloc);
+            let asked = AskedBlocks::new(alloc);
             let end = count(script);
             go_by_parts(
                 rt, alloc, gate, kernel, names, script, kid, asked, child, at, end,
@@ -299,7 +303,7 @@ fn fork_line<R: Threads + Wait + Sync, G: Gate + Sync, S: ScriptLines + Sync>(
     gate: &G,
     stage: Stage<'_, S>,
     mut task: Task,
-    asked: AskedLines,
+    asked: AskedBlocks,
     pid: u16,
     line: &Line<'_>,
     child: Pid,
@@ -315,6 +319,7 @@ fn fork_line<R: Threads + Wait + Sync, G: Gate + Sync, S: ScriptLines + Sync>(
     requires line { ForksTask (script_of S.told stage) (call_seen line.now) child.0 }
     ensures ran { Ran (is_some result.worked.stop) (script_of S.told stage.entry) (call_seen line.now ∷ segment pid at to (S.told stage.entry.script.now)) (segment pid result.at to (S.told stage.entry.script.now)) task result.worked.task asked result.worked.asked }
     ensures place { is_some result.worked.stop ≡ false → (at ≤ result.at) × (result.at ≤ to) }
+    ensures orderly { is_some result.worked.stop ≡ false → IsOrderly (script_of S.told stage.entry) (call_seen line.now ∷ segment pid at to (S.told stage.entry.script.now)) → IsOrderly (script_of S.told stage.entry) (segment pid result.at to (S.told stage.entry.script.now)) }
     ensures cause { IfSome result.worked.stop (IsCause (script_of S.told stage.entry) (call_seen line.now ∷ segment pid at to (S.told stage.entry.script.now)) task result.worked.task) }
 {
     match fork(rt, alloc, stage.kernel, &mut task, child) {
@@ -344,7 +349,7 @@ fn step<R: Threads + Wait + Sync, G: Gate + Sync, S: ScriptLines + Sync>(
     gate: &G,
     stage: Stage<'_, S>,
     task: Task,
-    asked: AskedLines,
+    asked: AskedBlocks,
     pid: u16,
     line: &Line<'_>,
     at: usize,
@@ -358,6 +363,7 @@ fn step<R: Threads + Wait + Sync, G: Gate + Sync, S: ScriptLines + Sync>(
     requires here { (n : ℕ) × Stands (S.told stage.script.now) n (call_seen line.now) × (at ≡ n + 1) }
     ensures ran { Ran (is_some result.worked.stop) (script_of S.told stage.entry) (call_seen line.now ∷ segment pid at to (S.told stage.entry.script.now)) (segment pid result.at to (S.told stage.entry.script.now)) task result.worked.task asked result.worked.asked }
     ensures place { is_some result.worked.stop ≡ false → (at ≤ result.at) × (result.at ≤ to) }
+    ensures orderly { is_some result.worked.stop ≡ false → IsOrderly (script_of S.told stage.entry) (call_seen line.now ∷ segment pid at to (S.told stage.entry.script.now)) → IsOrderly (script_of S.told stage.entry) (segment pid result.at to (S.told stage.entry.script.now)) }
     ensures cause { IfSome result.worked.stop (IsCause (script_of S.told stage.entry) (call_seen line.now ∷ segment pid at to (S.told stage.entry.script.now)) task result.worked.task) }
 {
     let stop = match act_of(alloc, stage.kernel.labels(), stage.names, line) {
@@ -396,7 +402,7 @@ fn go<R: Threads + Wait + Sync, G: Gate + Sync, S: ScriptLines + Sync>(
     gate: &G,
     stage: Stage<'_, S>,
     task: Task,
-    asked: AskedLines,
+    asked: AskedBlocks,
     pid: u16,
     from: usize,
     to: usize,
@@ -457,8 +463,15 @@ pub fn work<R: Threads + Wait + Sync, G: Gate + Sync>(
     ensures ran { Ran (is_some result.stop) (scripted script.now) (lines_by pid.0 script.now) [] task result.task [] result.asked }
     ensures cause { IfSome result.stop (IsCause (scripted script.now) (lines_by pid.0 script.now) task result.task) }
 {
-    let asked = AskedLines::new(alloc);
+    let asked = AskedBlocks::new(alloc);
     let Ok(names) = names_of(alloc, script.tasks()) else {
+        return Worked {
+            task,
+            asked,
+            stop: Some(Stop::Memory),
+        };
+    };
+    let Ok(placed) = PlacedLines::new(alloc, script.lines()) else {
         return Worked {
             task,
             asked,
@@ -468,7 +481,8 @@ pub fn work<R: Threads + Wait + Sync, G: Gate + Sync>(
     let stage = Stage {
         kernel,
         names: names.items(),
-        script,
+        script: &placed,
     };
-    go(rt, alloc, gate, stage, task, asked, pid.0, 0, count(script))
+    let end = count(&placed);
+    go(rt, alloc, gate, stage, task, asked, pid.0, 0, end)
 }

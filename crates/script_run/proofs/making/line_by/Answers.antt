@@ -1,7 +1,9 @@
-use Rattle.std.proofs.Common.{◌∷◌, refl}
+use Rattle.std.proofs.Common.{◌∷◌, refl, subst}
 use Rattle.script_text.specs.Lines.{call_seen}
 use Rattle.task_runs.proofs.Calls.{ran_unchanged}
+use Rattle.script_acts.specs.Acts.{IsAct}
 use Rattle.script_run.specs.Stages.{script_of}
+use Rattle.script_run.proofs.Orders.{no_child}
 use Rattle.script_run.proofs.making.line_by.Goals as goal
 
 pub returns-in-Wait-clause-ran : goal.returns-in-Wait-clause-ran
@@ -11,3 +13,7 @@ returns-in-Wait-clause-ran g c = λ ls. ran_unchanged (script_of g.S.ScriptLines
 pub returns-clause-ran : goal.returns-clause-ran
 returns-clause-ran g c = λ ls. ran_unchanged (script_of g.S.ScriptLines.told c.args.stage) (call_seen c.args.line.now ∷ ls) ls c.args.task.now c.args.task.now
     c.args.asked.now c.args.asked.now c.requires.top refl
+
+pub returns-in-Wait-clause-cause : goal.returns-in-Wait-clause-cause
+returns-in-Wait-clause-cause g c = λ ls. no_child (script_of g.S.ScriptLines.told c.args.stage) (call_seen c.args.line.now) ls c.in-Wait.field-0
+    (subst (IsAct c.args.stage.kernel.now.labels c.args.stage.names.now (call_seen c.args.line.now)) c.in-Wait.is c.requires.act)

@@ -1,11 +1,13 @@
 use Rattle.std.proofs.Common.{arith, refl, sym, ◌∙◌, subst, ◌∷◌, [], length, is_some}
 use Rattle.script_text.specs.Lines.{call_seen}
 use Rattle.task_runs.specs.Scripts.{segment}
+use Rattle.task_runs.specs.Orders.{IsOrderly}
 use Rattle.task_runs.proofs.Calls.{ran_none, ran_unchanged}
 use Rattle.script_run.specs.Stages.{script_of, IsForked}
 use Rattle.script_run.specs.Stops.{IsForkCause}
 use Rattle.script_run.proofs.Working.{unforked, fork_lines, go_on, go_stops}
 use Rattle.script_run.proofs.Stopping.{cause_then, fork_lines_cause}
+use Rattle.script_run.proofs.Orders.{fork_on}
 use Rattle.script_run.proofs.workers.+work.Goals as goal
 
 pub fork_line-returns-in-Err-clause-ran : goal.fork_line-returns-in-Err-clause-ran
@@ -33,6 +35,7 @@ go-loop-line-init g t c = record {
   top = c.requires.top;
   ran = ran_none (script_of g.S.ScriptLines.told c.args.stage) (segment c.args.pid c.args.from c.args.to (g.S.ScriptLines.told c.args.stage.script.now)) c.args.task
       c.args.asked c.requires.top;
+  orderly = λ is. is;
 }
 
 pub go-returns-then-is_some-clause-ran : goal.go-returns-then-is_some-clause-ran
@@ -55,6 +58,7 @@ go-loop-line-preserved g t c =
       ran = go_on (script_of g.S.ScriptLines.told c.args.stage) (segment c.args.pid c.args.from c.args.to (g.S.ScriptLines.told c.args.stage.script.now)) c.args.task
           c.loop-line.task r.worked.task c.args.asked c.loop-line.asked r.worked.asked _ _ _ (is_some r.worked.stop) i.ran
           c.in-Some.ensures.line line e;
+      orderly = λ is. c.step-worked.ensures.orderly e (subst (IsOrderly (script_of g.S.ScriptLines.told c.args.stage)) c.in-Some.ensures.line (i.orderly is));
     }
 
 pub step-returns-clause-ran : goal.step-returns-clause-ran
@@ -73,13 +77,13 @@ fork_line-returns-in-Ok-clause-cause g t c =
     (length (g.S.ScriptLines.told c.args.stage.script.now)) (call_seen c.args.line.now) c.args.task c.fork.new.task h.0.task c.in-Ok.kid h.1.task
     c.meet.result.worked.task f.0 c.args.asked h.0.asked h.1.asked (is_some h.0.stop) (is_some h.1.stop) h.0.stop h.1.stop p.0 p.1 (omega arith) refl
     c.requires.first f.1 f.2 f.3 c.halves-mine.ensures.mine c.halves-mine.ensures.theirs c.halves-mine.ensures.my_cause
-    c.halves-mine.ensures.their_cause c.meet.result.worked.stop c.meet.ensures.cause
+    c.halves-mine.ensures.their_cause c.requires.line c.wait_place-until.ensures.none c.meet.result.worked.stop c.meet.ensures.cause
 
 pub go-returns-then-is_some-clause-cause : goal.go-returns-then-is_some-clause-cause
 go-returns-then-is_some-clause-cause g t c = let r = c.step-worked.result in
     cause_then (script_of g.S.ScriptLines.told c.args.stage) (segment c.args.pid c.args.from c.args.to (g.S.ScriptLines.told c.args.stage.script.now))
     _ _ c.args.task c.loop-line.task r.worked.task c.args.asked c.loop-line.asked r.worked.stop c.loop-line.invariant.ran
-    c.in-Some.ensures.line c.step-worked.ensures.cause
+    c.in-Some.ensures.line c.loop-line.invariant.orderly c.step-worked.ensures.cause
 
 pub fork_line-returns-in-Err-clause-cause : goal.fork_line-returns-in-Err-clause-cause
 fork_line-returns-in-Err-clause-cause g t c =
@@ -89,3 +93,18 @@ fork_line-returns-in-Err-clause-cause g t c =
 pub step-returns-in-Ok-Some-clause-cause : goal.step-returns-in-Ok-Some-clause-cause
 step-returns-in-Ok-Some-clause-cause g t c =
     c.plain_step.ensures.cause (segment c.args.pid c.args.at c.args.to (g.S.ScriptLines.told c.args.stage.script.now))
+
+pub fork_line-returns-in-Ok-clause-orderly : goal.fork_line-returns-in-Ok-clause-orderly
+fork_line-returns-in-Ok-clause-orderly g t c = λ on is.
+    let p = c.wait_place-until.ensures.place in
+    let q = c.requires.place in
+    fork_on (script_of g.S.ScriptLines.told c.args.stage) c.args.pid c.args.child c.args.at c.wait_place-until.result c.args.to
+    (call_seen c.args.line.now) p.0 p.1 q.1 c.requires.line c.wait_place-until.ensures.none is c.meet.result.at c.meet.ensures.met.wait
+    (is_some c.meet.result.worked.stop) c.wait_place-until.ensures.line c.meet.ensures.met.at_end on
+
+pub step-returns-in-Ok-Some-clause-orderly : goal.step-returns-in-Ok-Some-clause-orderly
+step-returns-in-Ok-Some-clause-orderly g t c = λ on is.
+    let s = script_of g.S.ScriptLines.told c.args.stage in
+    let lines = g.S.ScriptLines.told c.args.stage.script.now in
+    subst (λ n. IsOrderly s (segment c.args.pid n c.args.to lines)) (sym c.plain_step.ensures.at)
+    (c.plain_step.ensures.orderly (segment c.args.pid c.args.at c.args.to lines) is)

@@ -1,6 +1,7 @@
 use Rattle.std.proofs.Common.{◌≡◌, ◌+◌, ◌-◌, ◌*◌, ◌≤◌, length, false}
 use Rattle.task_runs.specs.Scripts.{segment}
 use Rattle.task_runs.specs.Runs.{Ran}
+use Rattle.task_runs.specs.Orders.{IsOrderly}
 use Rattle.script_run.specs.Stages.{script_of}
 use Rattle.script_run.proofs.workers.+work.Given as goal
 
@@ -32,6 +33,8 @@ invariant-go-loop-line g l = record {
   top : l.task.version ≤ length l.task.journal;
   ran : Ran false (script_of g.S.ScriptLines.told l.stage) (segment l.pid l.fn.from l.to (g.S.ScriptLines.told l.stage.script.now))
       (segment l.pid l.at l.to (g.S.ScriptLines.told l.stage.script.now)) l.fn.task l.task l.fn.asked l.asked;
+  orderly : IsOrderly (script_of g.S.ScriptLines.told l.stage) (segment l.pid l.fn.from l.to (g.S.ScriptLines.told l.stage.script.now))
+      → IsOrderly (script_of g.S.ScriptLines.told l.stage) (segment l.pid l.at l.to (g.S.ScriptLines.told l.stage.script.now));
 }
 
 abbrev pub decreases-go-loop-line : goal.decreases-go-loop-line

@@ -9,22 +9,26 @@ pub returns-in_default-clause-ran : goal.returns-in_default-clause-ran
 returns-in_default-clause-ran g c = ran_unchanged (scripted c.args.script.now) (lines_by c.args.pid.0 c.args.script.now) [] c.args.task c.args.task []
     c.new-asked.result c.requires.top refl
 
+pub returns-in_default-new-clause-ran : goal.returns-in_default-new-clause-ran
+returns-in_default-new-clause-ran g c = ran_unchanged (scripted c.args.script.now) (lines_by c.args.pid.0 c.args.script.now) [] c.args.task c.args.task []
+    c.new-asked.result c.requires.top refl
+
 pub returns-clause-ran : goal.returns-clause-ran
 returns-clause-ran g c = let ran = rw c.new-asked.ensures at c.go.ensures.ran in work_lines c.args.script.now
-    (record { labels = c.args.kernel.now.labels; names = c.items.result.now; lines = c.args.script.now }) c.args.pid.0
-    c.count.result (is_some c.go.result.stop) c.args.task c.go.result.task c.go.result.asked
+    (record { labels = c.args.kernel.now.labels; names = c.items.result.now; lines = c.in-Ok-new.placed }) c.args.pid.0
+    c.count-end.result (is_some c.go.result.stop) c.args.task c.go.result.task c.go.result.asked
     (λ i. record {
       labels = (c.requires.labels) i;
       names = (c.items.ensures ∙ (c.in-Ok.ensures ∙ c.tasks.ensures.names)) i;
-      lines = c.args.script.now;
-    }) c.count.ensures ran
+      lines = (c.in-Ok-new.ensures ∙ c.lines.ensures.calls) i;
+    }) c.count-end.ensures ran
 
 pub returns-clause-cause : goal.returns-clause-cause
 returns-clause-cause g c = work_cause c.args.script.now
-    (record { labels = c.args.kernel.now.labels; names = c.items.result.now; lines = c.args.script.now }) c.args.pid.0
-    c.count.result c.go.result.stop c.args.task c.go.result.task
+    (record { labels = c.args.kernel.now.labels; names = c.items.result.now; lines = c.in-Ok-new.placed }) c.args.pid.0
+    c.count-end.result c.go.result.stop c.args.task c.go.result.task
     (λ i. record {
       labels = (c.requires.labels) i;
       names = (c.items.ensures ∙ (c.in-Ok.ensures ∙ c.tasks.ensures.names)) i;
-      lines = c.args.script.now;
-    }) c.count.ensures c.go.ensures.cause
+      lines = (c.in-Ok-new.ensures ∙ c.lines.ensures.calls) i;
+    }) c.count-end.ensures c.go.ensures.cause
