@@ -23,4 +23,5 @@ pub mod Tasks
 pub mod Places
 pub mod Forking
 pub mod Room
+pub mod Orders
 pub mod Plain

@@ -15,6 +15,7 @@ use Rattle.smack_kernel.specs.Answers.{IsWhole, ClosedValue, Closes}
 use Rattle.task_runs.specs.Scripts.{scripted, lines_by}
 use Rattle.task_runs.specs.Runs.{Ran}
 use Rattle.task_runs.specs.Stops.{IsOutOfEntries, IsOutOfCalls, HasForkedNone}
+use Rattle.task_runs.specs.Orders.{AreAllOrderly}
 
 -- the first task of a kernel ran the first task of a script, to its end or, where it stopped, less far, and asked these
 abbrev pub FirstRan : Bool → List ScriptLine → TableId → TaskValue → List AskedLine → Type 0
@@ -65,3 +66,7 @@ RunsHaveRoom =
     (asked : List AskedLine) → FirstRan stop lines table w asked → (closed : ClosedValue) → Closes (table_of lines) w closed
     → (IsOutOfEntries (scripted lines) (lines_by 0 lines) (first_task table) w → ⊥) × (IsOutOfCalls (scripted lines) w → ⊥)
     × (HasForkedNone w → ⊥)
+
+-- the words of each line of a script are known, and each wait is for the latest child of its task that is open
+abbrev pub ScriptsAreOrderly : Type 0
+ScriptsAreOrderly = (bytes : List ℕ) (lines : List ScriptLine) → parse bytes ≡ Ok lines → AreAllOrderly (scripted lines)

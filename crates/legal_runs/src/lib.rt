@@ -4,7 +4,7 @@
 //! `IsLegalFor` of legal_spec. A law is the contract of a function without a body.
 #![tactic(auto)]
 
-ghost use Rattle.legal_runs.specs.Laws.{RunsAreWhole, RunsAreLegal, RunsAreLegalForScripts, RunsArePlain, RunsHaveRoom};
+ghost use Rattle.legal_runs.specs.Laws.{RunsAreWhole, RunsAreLegal, RunsAreLegalForScripts, RunsArePlain, RunsHaveRoom, ScriptsAreOrderly};
 
 /// The law: however far the tasks of a script came, the first task may close the kernel.
 pub fn runs_are_whole()
@@ -30,4 +30,10 @@ pub fn runs_are_plain()
 /// the call of each line, and each fork made a task.
 pub fn runs_have_room()
     ensures { RunsHaveRoom }
+{}
+
+/// The law: the words of each line of a script are known, and each wait is for the latest child that
+/// its task forked and did not wait for.
+pub fn scripts_are_orderly()
+    ensures { ScriptsAreOrderly }
 {}

@@ -1,6 +1,10 @@
 -- What the lines do that make object calls.
-use Rattle.std.proofs.Common.{◌≡◌, ℕ, List, Option, Some, false, refl, ap, ◌∙◌}
+use Rattle.std.proofs.Common.{◌≡◌, ℕ, ◌&&◌, Bool, List, Option, Some, None, true, false, refl, ap, ◌∙◌}
+use Rattle.std.specs.Prelude.{is_some}
 use Rattle.smack_base.specs.declared.ids.Pid.{Pid}
+use Rattle.smack_base.specs.declared.ids.LabelId.{LabelId}
+use Rattle.smack_base.specs.declared.modes.Modes.{Modes}
+use Rattle.text_spec.specs.Names.{id_of}
 use Rattle.world_spec.specs.declared.Call.{Call}
 use Rattle.world_spec.specs.declared.Call.TheVariants.{Task, Tree}
 use Rattle.world_spec.specs.declared.TaskCall.{TaskCall}
@@ -9,9 +13,12 @@ use Rattle.world_spec.specs.declared.TreeCall.{TreeCall}
 use Rattle.script_spec.specs.declared.TaskVerb.{TaskVerb}
 use Rattle.script_spec.specs.declared.TreeVerb.{TreeVerb}
 use Rattle.script_spec.specs.declared.Verb.TheVariants as verbs
-use Rattle.script_spec.specs.Lines.{ScriptLine, verb_in}
-use Rattle.replay_spec.specs.Calls.{of_one, task_call, tree_call, call_by, call_of_line}
+use Rattle.script_spec.specs.declared.Verb.{Verb}
+use Rattle.script_spec.specs.Lines.{ScriptLine, word_in, verb_in}
+use Rattle.replay_spec.specs.Calls.{pid_in, of_one, task_call, tree_call, call_by, call_of_line}
+use Rattle.replay_spec.specs.Replays.{modes_in}
 use Rattle.smack_kernel.specs.Answers.{is_fork}
+use Rattle.task_runs.specs.Orders.{knows_words, is_known}
 use Rattle.script_acts.specs.declared.acts.Act.{Act}
 use Rattle.script_acts.specs.declared.acts.Act.TheVariants as act
 use Rattle.script_acts.specs.Acts.{IsActOf, IsAct}
@@ -44,3 +51,43 @@ module _ (labels names : List (List ℕ)) (l : ScriptLine) where
   pub tree_acts : (verb : TreeVerb) (call : TreeCall) → verb_in l ≡ Some (verbs.Tree verb) → tree_call l verb ≡ Some call
       → IsAct labels names l (act.Make (Tree call))
   tree_acts verb call is makes = (ap (call_by labels names l) is ∙ ap (λ (c : Option TreeCall). of_one c (λ t. Tree t)) makes, refl)
+
+none_third : (a b : Bool) → (a && (b && false)) ≡ false
+none_third true true = refl
+none_third true false = refl
+none_third false b = refl
+
+none_second : (a b : Bool) → (a && (false && b)) ≡ false
+none_second true b = refl
+none_second false b = refl
+
+-- the words of a line that is given no act
+module _ (labels names : List (List ℕ)) (l : ScriptLine) where
+  by_verb : (verb : Option Verb) → verb_in l ≡ verb → knows_words labels names l verb ≡ false → is_known labels names l ≡ false
+  by_verb verb is unknown = ap (knows_words labels names l) is ∙ unknown
+
+  pub no_verb : verb_in l ≡ None → is_known labels names l ≡ false
+  no_verb is = by_verb None is refl
+
+  pub no_subject : verb_in l ≡ Some verbs.Ask → id_of labels (word_in 1 l) ≡ None → is_known labels names l ≡ false
+  no_subject is none = by_verb (Some verbs.Ask) is
+      (ap (λ (s : Option LabelId). is_some s && (is_some (id_of labels (word_in 2 l)) && is_some (modes_in (word_in 3 l)))) none)
+
+  pub no_object : verb_in l ≡ Some verbs.Ask → id_of labels (word_in 2 l) ≡ None → is_known labels names l ≡ false
+  no_object is none = by_verb (Some verbs.Ask) is
+      (ap (λ (o : Option LabelId). is_some (id_of labels (word_in 1 l)) && (is_some o && is_some (modes_in (word_in 3 l)))) none
+      ∙ none_second (is_some (id_of labels (word_in 1 l))) (is_some (modes_in (word_in 3 l))))
+
+  pub no_modes : verb_in l ≡ Some verbs.Ask → modes_in (word_in 3 l) ≡ None → is_known labels names l ≡ false
+  no_modes is none = by_verb (Some verbs.Ask) is
+      (ap (λ (m : Option Modes). is_some (id_of labels (word_in 1 l)) && (is_some (id_of labels (word_in 2 l)) && is_some m)) none
+      ∙ none_third (is_some (id_of labels (word_in 1 l))) (is_some (id_of labels (word_in 2 l))))
+
+  pub no_child : verb_in l ≡ Some verbs.Wait → pid_in names (word_in 1 l) ≡ None → is_known labels names l ≡ false
+  no_child is none = by_verb (Some verbs.Wait) is (ap is_some none)
+
+  pub no_task_call : (verb : TaskVerb) → verb_in l ≡ Some (verbs.Task verb) → task_call labels names l verb ≡ None → is_known labels names l ≡ false
+  no_task_call verb is none = by_verb (Some (verbs.Task verb)) is (ap is_some none)
+
+  pub no_tree_call : (verb : TreeVerb) → verb_in l ≡ Some (verbs.Tree verb) → tree_call l verb ≡ None → is_known labels names l ≡ false
+  no_tree_call verb is none = by_verb (Some (verbs.Tree verb)) is (ap is_some none)

@@ -1,5 +1,5 @@
 -- Where the lines of a script stand, as they are kept.
-use Rattle.std.proofs.Common.{◌≡◌, ℕ, suc, ◌+◌, ◌<◌, ◌≤◌, List, [], ◌∷◌, length, map, take, drop, get_or, refl, ap, ◌∙◌, subst, arith, drop-cons, ne_eqb}
+use Rattle.std.proofs.Common.{◌≡◌, ℕ, suc, ◌+◌, ◌<◌, ◌≤◌, List, [], ◌∷◌, ◌++◌, length, sym, map, take, drop, get_or, refl, ap, ◌∙◌, subst, arith, drop-cons, ne_eqb}
 use Rattle.std.proofs.lemmas.List.{length-take-le, get_or-take}
 use Rattle.std.proofs.Math.ListN.{get_or-map}
 use Rattle.smack_base.specs.declared.ids.Pid.{Pid}
@@ -11,7 +11,8 @@ use Rattle.script_spec.specs.Lines.{ScriptLine}
 use Rattle.script_text.specs.Lines.{call_seen}
 use Rattle.script_text.specs.declared.line.Line.{Line}
 use Rattle.task_runs.specs.Scripts.{segment, lines_by}
-use Rattle.task_runs.proofs.Segments.{one, empty, stands_here}
+use Rattle.task_runs.specs.Orders.{NoneWaits}
+use Rattle.task_runs.proofs.Segments.{cut, one, empty, stands_here}
 use Rattle.script_acts.specs.Places.{IsWaitAt}
 
 module _ (p n to : ℕ) (xs : List Line) (d : Line) (low : n < to) (high : to ≤ length xs) where
@@ -53,3 +54,25 @@ skip_line p n to xs d low high ne =
     ∙ ap (λ (m : ℕ). segment p m to ys) (let z : suc n ≡ n + 1 = omega arith in z))) where
       other : (l : ScriptLine) (ls : List ScriptLine) → (l.task ≡ p → ⊥) → lines_by p (l ∷ ls) ≡ lines_by p ls
       other l ls e = rw (ne_eqb l.task p e) refl
+
+-- lines of which none waits for a child, and one more place
+module _ (names : List (List ℕ)) (child : Pid) where
+  none_both : (ls more : List ScriptLine) → NoneWaits names child ls → NoneWaits names child more → NoneWaits names child (ls ++ more)
+  none_both [] more a b = b
+  none_both (l ∷ ls) more a b = (a.0, none_both ls more a.1 b)
+
+  module _ (p from n : ℕ) (xs : List Line) (d : Line) (low : from ≤ n) (high : n < length xs)
+      (none : NoneWaits names child (segment p from n (map call_seen xs))) where
+    more : NoneWaits names child (segment p n (n + 1) (map call_seen xs)) → NoneWaits names child (segment p from (n + 1) (map call_seen xs))
+    more last = subst (NoneWaits names child) (sym (cut p from n (n + 1) (map call_seen xs) low (omega arith) (omega (arith, high, long_map call_seen xs))))
+        (none_both (segment p from n (map call_seen xs)) (segment p n (n + 1) (map call_seen xs)) none last)
+
+    pub none_of_own : (get_or xs n d).task ≡ p → ((labels : List (List ℕ)) → IsAskedOfLine labels names (call_seen (get_or xs n d)) (Wait child) → ⊥)
+        → NoneWaits names child (segment p from (n + 1) (map call_seen xs))
+    none_of_own e not_so = more (subst (NoneWaits names child)
+        (sym (line_at p n (n + 1) xs d (omega arith) (omega (arith, high)) e
+        ∙ ap (λ (ls : List ScriptLine). call_seen (get_or xs n d) ∷ ls) (none_here p (n + 1) xs (omega (arith, high))))) (not_so, tt))
+
+    pub none_of_other : ((get_or xs n d).task ≡ p → ⊥) → NoneWaits names child (segment p from (n + 1) (map call_seen xs))
+    none_of_other ne = more (subst (NoneWaits names child)
+        (sym (skip_line p n (n + 1) xs d (omega arith) (omega (arith, high)) ne ∙ none_here p (n + 1) xs (omega (arith, high)))) tt)

@@ -9,6 +9,7 @@ use Rattle.record_spec.specs.declared.AskedWhat.TheVariants as asked
 use Rattle.replay_spec.specs.Replays.{modes_in}
 use Rattle.legal_spec.specs.Lines.{IsCallOfLine, IsAskedOfLine}
 use Rattle.smack_kernel.specs.Answers.{is_fork}
+use Rattle.task_runs.specs.Orders.{is_known}
 use Rattle.script_acts.specs.declared.acts.Act.{Act}
 use Rattle.script_acts.specs.declared.acts.Act.TheVariants.{Write, Ask, Wait, Fork, Make}
 
@@ -30,7 +31,7 @@ IsAct labels names l (Wait pid) = IsAskedOfLine labels names l (asked.Wait pid)
 IsAct labels names l (Fork pid) = IsCallOfLine labels names l (Task (ForkTask pid))
 IsAct labels names l (Make call) = IsCallOfLine labels names l call × (is_fork call ≡ false)
 
--- it does this, or its words are not of their kinds
+-- it does this; or it has no verb, or words that are not of their kinds or not known
 abbrev pub IsAnyAct : List (List ℕ) → List (List ℕ) → ScriptLine → Option Act → Type 0
-IsAnyAct labels names l None = Unit {0}
+IsAnyAct labels names l None = is_known labels names l ≡ false
 IsAnyAct labels names l (Some act) = IsAct labels names l act

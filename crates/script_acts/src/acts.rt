@@ -28,12 +28,16 @@ pub enum Act {
     Make(Call),
 }
 
+#[tactic(auto, using(crate::proofs::LineActs::no_subject, crate::proofs::LineActs::no_object, crate::proofs::LineActs::no_modes))]
 fn question(labels: &Labels, line: &Line<'_>) -> Option<Act>
     requires { verb_in (call_seen line.now) ≡ Some verbs.Ask }
     ensures { (names : List (List ℕ)) → IsAnyAct labels.now names (call_seen line.now) result }
 {
     let words = words_of(line);
-    let (Some(s), Some(o)) = (labels.id(words.one), labels.id(words.two)) else {
+    let Some(s) = labels.id(words.one) else {
+        return None;
+    };
+    let Some(o) = labels.id(words.two) else {
         return None;
     };
     match modes_in(words.three) {
@@ -42,6 +46,7 @@ fn question(labels: &Labels, line: &Line<'_>) -> Option<Act>
     }
 }
 
+#[tactic(auto, using(crate::proofs::LineActs::no_child))]
 fn wait(names: &[Bytes], line: &Line<'_>) -> Option<Act>
     requires names { length names.now ≤ most_tasks }
     requires verb { verb_in (call_seen line.now) ≡ Some verbs.Wait }
@@ -64,7 +69,7 @@ fn act_of_call(call: TaskCall) -> Act
     }
 }
 
-#[tactic(auto, using(crate::proofs::LineActs::task_acts))]
+#[tactic(auto, using(crate::proofs::LineActs::task_acts, crate::proofs::LineActs::no_task_call))]
 fn task_act(labels: &Labels, names: &[Bytes], line: &Line<'_>, verb: TaskVerb) -> Option<Act>
     requires names { length names.now ≤ most_tasks }
     requires verb { verb_in (call_seen line.now) ≡ Some (verbs.Task verb) }
@@ -76,7 +81,7 @@ fn task_act(labels: &Labels, names: &[Bytes], line: &Line<'_>, verb: TaskVerb) -
     }
 }
 
-#[tactic(auto, using(crate::proofs::LineActs::tree_acts))]
+#[tactic(auto, using(crate::proofs::LineActs::tree_acts, crate::proofs::LineActs::no_tree_call))]
 fn tree_act(alloc: Global, line: &Line<'_>, verb: TreeVerb) -> Result<Option<Act>, AllocError>
     requires { verb_in (call_seen line.now) ≡ Some (verbs.Tree verb) }
     ensures { IfOk result (λ act. (labels names : List (List ℕ)) → IsAnyAct labels names (call_seen line.now) act) }
@@ -87,8 +92,9 @@ fn tree_act(alloc: Global, line: &Line<'_>, verb: TreeVerb) -> Result<Option<Act
     }
 }
 
-/// What a line does, by the labels and the names of the tasks; None where its words are not of their
-/// kinds, which is so in no script.
+/// What a line does, by the labels and the names of the tasks; None where it has no verb, or words
+/// that are not of their kinds or not known, which is so in no script.
+#[tactic(auto, using(crate::proofs::LineActs::no_verb))]
 pub fn act_of(
     alloc: Global,
     labels: &Labels,

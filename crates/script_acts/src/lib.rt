@@ -5,7 +5,8 @@
 //! the line by which it waits for a child.
 //!
 //! Stands on script_calls for the words of lines as calls. Of smack_kernel and task_runs it has the
-//! definitions alone: which call is a fork, and the lines of a task between two places.
+//! definitions alone: which call is a fork, which lines are known, and the lines of a task between two
+//! places.
 #![tactic(auto)]
 
 mod acts;

@@ -6,3 +6,4 @@ pub mod Meetings
 pub mod Segments
 pub mod Lines
 pub mod Stops
+pub mod Orders

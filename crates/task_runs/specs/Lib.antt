@@ -3,3 +3,4 @@ pub mod Deeds
 pub mod Runs
 pub mod Meetings
 pub mod Stops
+pub mod Orders

@@ -8,7 +8,8 @@
 //! `Over` no call is judged in a version older than its task had seen or been told of. `Meetings`
 //! is where a task and its child come together again. `Stops` says what is so where one stopped: that
 //! the history is full while some lines have no call, that a task has made all calls that it may, or
-//! that a fork made no task.
+//! that a fork made no task. `Orders` says which lines of a task can be run: each wait is for the
+//! latest child that they forked and did not wait for.
 //!
 //! Stands on smack_kernel for what a task is and what each call does to it, and on legal_spec for
 //! what a line may become.
