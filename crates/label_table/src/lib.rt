@@ -12,7 +12,5 @@
 
 mod guesses;
 mod labels;
-#[cfg(test)]
-mod tests;
 
 pub use labels::{Labels, LabelsFault};

@@ -12,8 +12,6 @@
 
 mod policy;
 mod rule_index;
-#[cfg(test)]
-mod tests;
 
 pub use rule_index::RuleIndex;
 pub use rules_spec::{Batch, Journal};

@@ -21,8 +21,6 @@ mod rule_line;
 mod rule_lines;
 mod short_line;
 mod subject_lines;
-#[cfg(test)]
-mod tests;
 mod text_words;
 mod worded_line;
 mod words;

@@ -1,7 +1,12 @@
-use Rattle.std.specs.Prelude.{◌≡◌, ℕ, List, Err, codes}
+use Rattle.std.specs.Prelude.{◌≡◌, ℕ, zero, suc, ◌+◌, ◌/◌, ◌%◌, List, [], ◌∷◌, ◌++◌, Result, Ok, Err, length, map, codes}
 use Rattle.script_spec.specs.declared.Cause.{Cause}
-use Rattle.script_spec.specs.declared.Cause.TheVariants.{Task, Verb, Word, Text, Name, Wait, NotBuilt}
-use Rattle.script_spec.specs.declared.ScriptFault.TheVariants.{Malformed}
+use Rattle.script_spec.specs.declared.Cause.TheVariants.{Task, Verb, Word, Words, Text, Name, Wait, NotBuilt}
+use Rattle.script_spec.specs.declared.What.TheVariants.{Tasks}
+use Rattle.script_spec.specs.declared.ScriptFault.{ScriptFault}
+use Rattle.script_spec.specs.declared.ScriptFault.TheVariants.{Malformed, TooLarge}
+use Rattle.script_spec.specs.Words.{word_at}
+use Rattle.script_spec.specs.Lines.{ScriptLine, word_in, table_of}
+use Rattle.script_spec.specs.Tasks.{task_names}
 use Rattle.script_spec.specs.Grammar.{parse}
 
 -- a script whose first bad line is this one, for this cause
@@ -32,3 +37,57 @@ pub record WorkedScripts : Type 0 where
   pub no_unconfined : IsBad (codes "init write unconfined") 1 NotBuilt
   pub no_exec : IsBad (codes "init exec /f") 1 NotBuilt
   pub deep_path : IsBad (codes "init create /a/b") 1 NotBuilt
+  pub zero_byte : IsBad (0 ∷ []) 1 (Word 1)
+  pub tab_in_task : IsBad (codes "init" ++ 9 ∷ codes "ask A B r") 1 (Word 1)
+  pub task_alone : IsBad (codes "init") 1 Verb
+  pub return_behind_task : IsBad (codes "init" ++ 13 ∷ codes "\n") 1 (Word 1)
+  pub too_many_words : IsBad (codes "init ask A B r x") 1 Words
+  pub words_behind_exit : IsBad (codes "init exit x y") 1 Words
+  pub tab_between_words : IsBad (codes "init ask A B" ++ 9 ∷ codes "r") 1 Words
+  pub behind_a_comment : IsBad (codes "init ask A B r\n# c\ninit ask A B z\n") 3 (Word 5)
+  pub return_behind_modes : IsBad (codes "init ask A B r" ++ 13 ∷ codes "\n") 1 (Word 5)
+  pub zero_in_front : IsBad (codes "init write load2 01\nA B r\n") 1 (Word 4)
+  pub number_2_to_32 : IsBad (codes "init write load2 4294967296\n") 1 (Word 4)
+  pub text_ends_early : IsBad (codes "init write load2 2\nA B r") 1 Text
+  pub long_file : IsBad (codes "init write abcdefghijklmnopqrstuvwxyz0123456 0") 1 (Word 3)
+
+-- the calls of a script; none where it is bad
+abbrev pub calls_read : Result (List ScriptLine) ScriptFault → List ScriptLine
+calls_read (Ok lines) = lines
+calls_read (Err fault) = []
+
+abbrev pub calls_of : List ℕ → List ScriptLine
+calls_of script = calls_read (parse script)
+
+-- the pid of the task of a call, its number among the calls of the task, and the number of its line
+abbrev pub places_of : List ℕ → List (List ℕ)
+places_of script = map (λ l. l.task ∷ l.seq ∷ l.line ∷ []) (calls_of script)
+
+-- how many labels each script has, the five predefined ones included
+abbrev pub label_counts : List (List ℕ) → List ℕ
+label_counts scripts = map (λ script. length (table_of (calls_of script))) scripts
+
+-- a script that forks so many tasks, with names of two digits
+abbrev pub forks : ℕ → List ℕ
+forks zero = []
+forks (suc n) = forks n ++ codes "init fork " ++ (48 + (n / 10)) ∷ (48 + (n % 10)) ∷ 10 ∷ []
+
+abbrev pub two_texts : List ℕ
+two_texts = codes "# a comment\n\n  init  write load2 2 \nA B rw\n\ninit ask A B r"
+
+abbrev pub three_tasks : List ℕ
+three_tasks = codes "init fork B\nB fork C\nC take\nB kill C 9\ninit take"
+
+-- What is read of good scripts.
+pub record ReadScripts : Type 0 where
+  pub skipped_lines : places_of two_texts ≡ (0 ∷ 1 ∷ 3 ∷ []) ∷ (0 ∷ 2 ∷ 6 ∷ []) ∷ []
+  pub second_words : map (λ l. (word_at 2 l.words).at) (calls_of two_texts) ≡ 33 ∷ 55 ∷ []
+  pub texts : map (λ l. l.text.bytes) (calls_of two_texts) ≡ codes "A B rw\n\n" ∷ [] ∷ []
+  pub third_words : map (word_in 3) (calls_of two_texts) ≡ [] ∷ codes "r" ∷ []
+  pub pids : places_of three_tasks ≡ (0 ∷ 1 ∷ 1 ∷ []) ∷ (1 ∷ 1 ∷ 2 ∷ []) ∷ (2 ∷ 1 ∷ 3 ∷ []) ∷ (1 ∷ 2 ∷ 4 ∷ []) ∷ (0 ∷ 2 ∷ 5 ∷ []) ∷ []
+  pub names : task_names (calls_of three_tasks) ≡ codes "init" ∷ codes "B" ∷ codes "C" ∷ []
+  pub longest_file : length (calls_of (codes "init write abcdefghijklmnopqrstuvwxyz012345 0")) ≡ 1
+  pub most_tasks : length (task_names (calls_of (forks 63))) ≡ 64
+  pub too_many_tasks : parse (forks 64) ≡ Err (TooLarge Tasks)
+  pub labels_of_words_and_texts : label_counts (codes "init write load-self2 2\nA B r\nB C r\n" ∷ codes "init write load2 2\nA B r\nB C r\n" ∷ codes "init write revoke-subject 1\nA\ninit relabel A" ∷ codes "init write onlycap 1\nA B A _\n" ∷ codes "init write ambient 1\nA\ninit ask B _ r" ∷ []) ≡ 8 ∷ 8 ∷ 6 ∷ 7 ∷ 7 ∷ []
+  pub no_labels_of_bad_texts : label_counts (codes "init write relabel-self 1\nA - B\n" ∷ codes "init write load2 2\nA B r\nB C z\n" ∷ codes "init write load3 1\nA B r\n" ∷ codes "init write onlycap 1\n-\n" ∷ codes "init write ptrace 1\n1\ninit create /A" ∷ []) ≡ 5 ∷ 5 ∷ 5 ∷ 5 ∷ 5 ∷ []

@@ -11,7 +11,7 @@ ghost use Rattle.script_spec.specs.declared.ScriptFault.{ScriptFault};
 ghost use Rattle.script_spec.specs.Lines.{ScriptLine};
 ghost use Rattle.script_spec.specs.Grammar.{parse};
 ghost use Rattle.script_laws.specs.Parses.{Parses};
-ghost use Rattle.script_laws.specs.WorkedScripts.{WorkedScripts};
+ghost use Rattle.script_laws.specs.WorkedScripts.{WorkedScripts, ReadScripts};
 
 /// Bytes parse as what the grammar relates them to, and as nothing else.
 #[tactic(auto, using(crate::proofs::Grammar::sound))]
@@ -24,4 +24,9 @@ pub fn parse_is_the_grammar()
 #[tactic(auto, using(crate::proofs::Worked::scripts))]
 pub fn worked_scripts()
     ensures { WorkedScripts }
+{}
+
+/// What is read of good scripts, computed from the definitions.
+pub fn read_scripts()
+    ensures { ReadScripts }
 {}

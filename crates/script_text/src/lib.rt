@@ -17,8 +17,6 @@ mod reading;
 mod script;
 mod spelled;
 mod tasks;
-#[cfg(test)]
-mod tests;
 mod texts;
 mod verbs;
 mod words;

@@ -2,7 +2,7 @@ use Rattle.std.proofs.Common.{◌≡◌, ◌≤◌, ◌<◌, ◌+◌, ℕ, Bool,
 use Rattle.std.proofs.Math.ListN.{set}
 use Rattle.std.specs.Prelude.{position, nat_le}
 use Rattle.std.specs.List.{position_or_len, AllByRecursion}
-use Rattle.std.proofs.lemmas.Bool.{and_parts, leb-true, le-leb, ltb-true, ltb-false, lt-ltb, le-ltb, eq-eqb, ne_eqb}
+use Rattle.std.proofs.lemmas.Bool.{and_parts, leb-true, ltb-true, ltb-false, lt-ltb, le-ltb, eq-eqb, ne_eqb}
 use Rattle.world_spec.specs.Signals.{is_signal, with_signal}
 use Rattle.signal_box.specs.Places.{set_places}
 

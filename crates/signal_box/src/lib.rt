@@ -5,7 +5,5 @@
 #![tactic(auto)]
 
 mod pending;
-#[cfg(test)]
-mod tests;
 
 pub use pending::{OutOfRange, Pending, is_signal};

@@ -16,12 +16,8 @@ mod laws;
 mod modes;
 mod path;
 mod path_names;
-#[cfg(test)]
-mod path_tests;
 mod rule_op;
 mod sequence;
-#[cfg(test)]
-mod tests;
 
 pub use cap::Cap;
 pub use ids::{LabelId, Pid};

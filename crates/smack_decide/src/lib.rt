@@ -13,8 +13,6 @@ mod attaching;
 mod full_verdict;
 mod ordered_cases;
 mod privilege;
-#[cfg(test)]
-mod tests;
 
 pub use attaching::decide_attach;
 pub use full_verdict::decide;

@@ -13,9 +13,7 @@
 #![tactic(auto)]
 
 mod acting;
-#[cfg(test)]
-mod tests;
 mod world;
 
 pub use world::{Stepped, World};
-pub use world_spec::{Call, Entry, Reply, TaskCall, Trail, TreeCall, Why};
+pub use world_spec::{Call, Entry, Listing, Reply, TaskCall, Trail, TreeCall, Why};

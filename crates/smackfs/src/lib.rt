@@ -12,8 +12,6 @@
 
 mod compiling;
 mod named_op;
-#[cfg(test)]
-mod tests;
 mod text_writes;
 
 pub use compiling::{TextFault, compile, file_of, read_as};

@@ -12,8 +12,6 @@
 mod cred;
 mod fault;
 mod self_rules;
-#[cfg(test)]
-mod tests;
 
 pub use cred::Cred;
 pub use fault::CredFault;

@@ -11,8 +11,6 @@
 mod fault;
 mod row;
 mod tasks;
-#[cfg(test)]
-mod tests;
 
 pub use fault::TaskFault;
 pub use tasks::Tasks;

@@ -4,4 +4,4 @@ use Rattle.world_replays.specs.WorkedCalls.{WorkedCalls}
 
 pub worked : WorkedCalls
 unfolding verdict_by_creds
-worked = record { signals = refl; traces = refl; one_relabel = refl; self_rules = refl }
+worked = record { signals = refl; traces = refl; one_relabel = refl; self_rules = refl; files = refl; listings = refl; many_tasks = refl }

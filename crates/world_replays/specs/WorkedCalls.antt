@@ -1,4 +1,4 @@
-use Rattle.std.specs.Prelude.{◌≡◌, ℕ, true, false, List, [], ◌∷◌}
+use Rattle.std.specs.Prelude.{◌≡◌, ℕ, zero, suc, true, false, List, [], ◌∷◌, ◌++◌, map, codes}
 use Rattle.smack_base.specs.declared.modes.Modes.{Modes}
 use Rattle.smack_base.specs.declared.ids.LabelId.{LabelId}
 use Rattle.smack_base.specs.declared.ids.Pid.{Pid}
@@ -8,13 +8,16 @@ use Rattle.smack_base.specs.declared.rule_op.RuleOp.TheVariants.{Set, Ptrace}
 use Rattle.rules_spec.specs.declared.Verdict.{Verdict}
 use Rattle.rules_spec.specs.Versions.{floor}
 use Rattle.rules_spec.specs.Rulings.{Ruling, ruling}
-use Rattle.rules_spec.specs.AskedModes.{read, write, read_write}
-use Rattle.world_spec.specs.declared.Call.TheVariants.{Task}
+use Rattle.rules_spec.specs.AskedModes.{read, write, execute, read_write}
+use Rattle.world_spec.specs.declared.Call.{Call}
+use Rattle.world_spec.specs.declared.Call.TheVariants.{Task, Tree}
 use Rattle.world_spec.specs.declared.TaskCall.{TaskCall}
 use Rattle.world_spec.specs.declared.TaskCall.TheVariants.{Fork, Exit, Relabel, DropCap, SelfRules, Relabels, Kill, Take, TraceRead, TraceAttach}
+use Rattle.world_spec.specs.declared.TreeCall.{TreeCall}
+use Rattle.world_spec.specs.declared.TreeCall.TheVariants.{Create, Unlink, ListDir}
 use Rattle.world_spec.specs.declared.Reply.{Reply}
-use Rattle.world_spec.specs.declared.Reply.TheVariants.{Ok as Done, Child, Signal, Denied, Refused}
-use Rattle.world_spec.specs.declared.Why.TheVariants.{Exists, NotPrivileged, NoSuchTask, Again, Range}
+use Rattle.world_spec.specs.declared.Reply.TheVariants.{Ok as Done, Child, Signal, Names, Denied, Refused}
+use Rattle.world_spec.specs.declared.Why.TheVariants.{Exists, NotPrivileged, NoSuchTask, Again, Range, TasksFull}
 use Rattle.world_spec.specs.Worlds.{World, world_first}
 use Rattle.world_spec.specs.Steps.{step}
 
@@ -22,7 +25,7 @@ use Rattle.world_spec.specs.Steps.{step}
 pub record Made : Type 0 where
   pub version : Ruling
   pub task : ℕ
-  pub call : TaskCall
+  pub call : Call
 
 -- what came of a call
 pub record Outcome : Type 0 where
@@ -32,7 +35,7 @@ pub record Outcome : Type 0 where
 -- what came of some calls, one after another
 abbrev pub outcomes : World → List Made → List Outcome
 outcomes w [] = []
-outcomes w (m ∷ ms) = let s = step w m.version m.task (Task m.call) in record { checks = s.checks; reply = s.reply } ∷ outcomes s.world ms
+outcomes w (m ∷ ms) = let s = step w m.version m.task m.call in record { checks = s.checks; reply = s.reply } ∷ outcomes s.world ms
 
 -- the calls come to this in the first world
 abbrev pub come_to : List Made → List Outcome → Type 0
@@ -53,7 +56,11 @@ abbrev pub no_rules : Ruling
 no_rules = ruling []
 
 abbrev pub makes_call : Ruling → ℕ → TaskCall → Made
-makes_call version task call = record { version = version; task = task; call = call }
+makes_call version task call = record { version = version; task = task; call = Task call }
+
+-- a call on the tree by the first task, in version 0
+abbrev pub on_tree : TreeCall → Made
+on_tree call = record { version = no_rules; task = 0; call = Tree call }
 
 -- a reply without a check
 abbrev pub replies : Reply → Outcome
@@ -116,8 +123,61 @@ SelfRulesOfChild = come_to
     (replies Done ∷ replies Done ∷ replies Done ∷ replies (Child 1) ∷ denied (label 5) (label 5) write 8
     ∷ allowed_then (label 5) (label 5) read 5 0 Done ∷ replies Done ∷ denied (label 5) (label 6) read 7 ∷ [])
 
+abbrev pub check : LabelId → Modes → ℕ → Verdict
+check s m case = record { allowed = true; case = case; over = 0; subject = s; object = floor; modes = m }
+
+-- a change of the root that is allowed to the floor label: the root is searched, and written
+abbrev pub changes_root : Outcome
+changes_root = record { checks = check floor execute 3 ∷ check floor read_write 5 ∷ []; reply = Done }
+
+-- a listing of the root that is allowed
+abbrev pub lists : LabelId → ℕ → List (List ℕ) → Outcome
+lists s count names = record { checks = check s read 3 ∷ []; reply = Names count names }
+
+-- A file stays where its unlink is denied, and a label where its change is refused.
+abbrev pub Files : Type 0
+Files = come_to
+    (on_tree (Create (codes "f" ∷ [])) ∷ makes_call no_rules 0 (Relabel (label 5)) ∷ on_tree (ListDir [] 0)
+    ∷ makes_call no_rules 0 (DropCap MacOverride) ∷ on_tree (Unlink (codes "f" ∷ [])) ∷ on_tree (ListDir [] 0)
+    ∷ makes_call no_rules 0 (DropCap MacAdmin) ∷ makes_call no_rules 0 (Relabel (label 6)) ∷ [])
+    (changes_root ∷ replies Done ∷ lists (label 5) 1 (codes "f" ∷ []) ∷ replies Done
+    ∷ record {
+      checks = check (label 5) execute 3 ∷ record { allowed = false; case = 7; over = 0; subject = label 5; object = floor; modes = read_write } ∷ [];
+      reply = Denied 7;
+    }
+    ∷ lists (label 5) 1 (codes "f" ∷ []) ∷ replies Done ∷ replies (Refused NotPrivileged) ∷ [])
+
+-- names of one byte
+abbrev pub one_byte_names : List ℕ → List (List ℕ)
+one_byte_names bytes = map (λ b. b ∷ []) bytes
+
+-- A listing has at most 16 names, in byte order, from a place on.
+abbrev pub Listings : Type 0
+Listings = come_to
+    (map (λ b. on_tree (Create ((b ∷ []) ∷ []))) (codes "gbaqrkcnfdhpeijlom")
+    ++ on_tree (ListDir [] 0) ∷ on_tree (ListDir [] 1) ∷ on_tree (ListDir [] 17) ∷ on_tree (ListDir [] 18) ∷ [])
+    (map (λ b. changes_root) (codes "gbaqrkcnfdhpeijlom")
+    ++ lists floor 18 (one_byte_names (codes "abcdefghijklmnop")) ∷ lists floor 18 (one_byte_names (codes "bcdefghijklmnopq"))
+    ∷ lists floor 18 (one_byte_names (codes "r")) ∷ lists floor 18 [] ∷ [])
+
+-- forks of pids from 1 to this one, and their replies
+abbrev pub forks : ℕ → List Made
+forks zero = []
+forks (suc n) = forks n ++ makes_call no_rules 0 (Fork (pid (suc n))) ∷ []
+
+abbrev pub children : ℕ → List Outcome
+children zero = []
+children (suc n) = children n ++ replies (Child (suc n)) ∷ []
+
+-- The first task and 63 others are the most.
+abbrev pub ManyTasks : Type 0
+ManyTasks = come_to (forks 64) (children 63 ++ replies (Refused (TasksFull 64)) ∷ [])
+
 pub record WorkedCalls : Type 0 where
   pub signals : Signals
   pub traces : Traces
   pub one_relabel : OneRelabel
   pub self_rules : SelfRulesOfChild
+  pub files : Files
+  pub listings : Listings
+  pub many_tasks : ManyTasks

@@ -43,7 +43,7 @@ pub fn cred_at_is_now()
     ensures { CredAtIsNow }
 {}
 
-/// Worked calls: signals, tracing, relabelling and self rules.
+/// Worked calls: signals, tracing, relabelling, self rules, files, and the most tasks.
 #[tactic(auto, using(crate::proofs::Worked::worked))]
 pub fn worked_calls()
     ensures { WorkedCalls }

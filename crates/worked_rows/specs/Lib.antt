@@ -1,0 +1,5 @@
+pub mod Words
+pub mod RuleLines
+pub mod Files
+pub mod Versions
+pub mod Decisions
