@@ -46,9 +46,9 @@ def creates(size):
     return "".join(f"init create /f{i:05}\n" for i in range(size // 20)).encode()
 
 
-def lists(size, files=0):
-    """Listings of the root, which has so many files."""
-    head = "".join(f"init create /f{i}\n" for i in range(files))
+def lists(size, files=0, digits=1):
+    """Listings of the root, which has so many files, with names of an f and at least so many digits."""
+    head = "".join(f"init create /f{i:0{digits}}\n" for i in range(files))
     return (head + "init list / 0\n" * ((size - len(head)) // 14)).encode()
 
 
@@ -92,6 +92,7 @@ def main():
     show(program, "creates", creates(MIB // 2))
     for files in (0, 1, 4, 16):
         show(program, f"lists of {files} names", lists(MIB, files))
+    show(program, "lists of 16 names of seven letters", lists(MIB, 16, 6))
 
 
 if __name__ == "__main__":
