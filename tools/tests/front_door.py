@@ -31,6 +31,15 @@ def ended(words: list, given: bytes = b"", environment: Optional[dict] = None) -
     return Ended(done.returncode, done.stdout.decode(), done.stderr.decode())
 
 
+def ended_with_errors_in(file: Path, words: list, environment: dict) -> Ended:
+    """Runs a command to its end, with this file as its standard error, so that it can be read meanwhile."""
+    with file.open("wb") as errors:
+        done = subprocess.run(
+            list(map(str, words)), input=b"", stdout=subprocess.PIPE, stderr=errors, env=environment, check=False
+        )
+    return Ended(done.returncode, done.stdout.decode(), file.read_text())
+
+
 class FrontDoorTest(unittest.TestCase):
     """A test with a folder of its own."""
 

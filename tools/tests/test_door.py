@@ -10,18 +10,25 @@ from tests.front_door import (
     FrontDoorTest,
     copy_without_program,
     ended,
+    ended_with_errors_in,
     executable,
     with_path,
 )
 
 RECORD = "smack 1\ntask 0 init\nend 0 0 0\n"
 
-# A stand-in for rt: `run` makes the program, `try` prints a record.
+# A stand-in for rt: `run` makes a crate's stamp until the front door has told of it in the file that PROGRESS
+# names, at most a minute, and then the program; `try` prints a record.
 RT = f"""#!/bin/sh
 case $1 in
     run)
-        mkdir -p ../a/out/rlib out && touch ../a/out/rlib/stamp
-        sleep 3
+        mkdir -p ../a/out/rlib out
+        turn=0
+        until grep -q "crate 2 of" "$PROGRESS" || [ $turn -eq 600 ]; do
+            touch ../a/out/rlib/stamp
+            sleep 0.1
+            turn=$((turn + 1))
+        done
         printf '#!/bin/sh\\ncat >/dev/null\\nprintf "{RECORD}"\\n' >out/smack
         chmod +x out/smack
         echo 'smack 1'
@@ -89,18 +96,19 @@ class TestFirstBuild(FrontDoorTest):
         self.copy = copy_without_program(self.folder / "copy")
 
     def built_by(self, rt: str, *words) -> Ended:
-        """Runs the copy with this rt on the path."""
+        """Runs the copy with this rt on the path; its standard error is the file that PROGRESS names."""
         tools = self.folder / "bin"
         tools.mkdir(exist_ok=True)
         executable(tools / "rt", rt)
-        environment = {**with_path(self.copy), "TMPDIR": str(self.folder)}
+        progress = self.folder / "progress"
+        environment = {**with_path(self.copy), "TMPDIR": str(self.folder), "PROGRESS": str(progress)}
         environment["PATH"] = f"{tools}:{environment['PATH']}"
-        return ended([self.copy / "smack", *words], environment=environment)
+        return ended_with_errors_in(progress, [self.copy / "smack", *words], environment)
 
     def test_progress_and_the_record_that_was_asked_for(self) -> None:
         said = self.built_by(RT, "replay")
         self.assertEqual((said.status, said.out), (0, RECORD))
-        self.assertRegex(said.err, r"smack: proving crate 2 of [0-9]+, 0 min\n")
+        self.assertRegex(said.err, r"smack: proving crate 2 of [0-9]+, [0-9] min\n")
         self.assertNotIn("smack 1", said.err)
         self.assertEqual(list(self.folder.glob("smack-build.*")), [])
 
