@@ -110,9 +110,6 @@ empty_push [] are = (refl, tt)
 empty_push (l ∷ ls) are = (are.0, empty_push ls are.1)
 
 -- the same where all lines of one task are put in, one after another
-get_set : (lists : List (List AskedLine)) (at : ℕ) (l none : List AskedLine) → at < length lists → get_or (set lists at l) at none ≡ l
-get_set lists at l none within = get_or-set_same lists at l none within
-
 put_in_all : (xs : List AskedLine) (lists : List (List AskedLine)) (task : ℕ) (none : List AskedLine) → AreByTask 0 lists
     → task < length lists → AreOf task xs
     → all_lines (set lists task (get_or lists task none ++ xs)) ≡ fold with_asked (all_lines lists) xs
@@ -124,7 +121,7 @@ put_in_all (x ∷ xs) lists task none are within of =
     let low : task < length more = subst (λ (n : ℕ). task < n) (sym (set_length lists task (own ++ x ∷ []))) within in
     let is : x.task ≡ 0 + task = omega (arith, of.0) in
     ap all_lines (sym (set-set lists task (own ++ x ∷ []) (own ++ x ∷ xs)))
-    ∙ (ap (λ t. all_lines (set more task t)) (sym (append_assoc own (x ∷ []) xs) ∙ ap (λ t. t ++ xs) (sym (get_set lists task (own ++ x ∷ []) none within)))
+    ∙ (ap (λ t. all_lines (set more task t)) (sym (append_assoc own (x ∷ []) xs) ∙ ap (λ t. t ++ xs) (sym (get_or-set_same lists task (own ++ x ∷ []) none within)))
     ∙ (put_in_all xs more task none (are_put lists 0 task x none are within is) low of.1
     ∙ ap (λ t. fold with_asked t xs) (put_in lists 0 task x none are within is)))
 
@@ -138,7 +135,7 @@ are_put_all (x ∷ xs) lists task none are within of =
     let low : task < length more = subst (λ (n : ℕ). task < n) (sym (set_length lists task (own ++ x ∷ []))) within in
     let is : x.task ≡ 0 + task = omega (arith, of.0) in
     subst (AreByTask 0)
-    (sym (ap (λ t. set more task t) (sym (append_assoc own (x ∷ []) xs) ∙ ap (λ t. t ++ xs) (sym (get_set lists task (own ++ x ∷ []) none within))))
+    (sym (ap (λ t. set more task t) (sym (append_assoc own (x ∷ []) xs) ∙ ap (λ t. t ++ xs) (sym (get_or-set_same lists task (own ++ x ∷ []) none within))))
     ∙ set-set lists task (own ++ x ∷ []) (own ++ x ∷ xs))
     (are_put_all xs more task none (are_put lists 0 task x none are within is) low of.1)
 

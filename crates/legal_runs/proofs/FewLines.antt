@@ -1,5 +1,5 @@
 -- A script has as many calls as it may have lines, or fewer.
-use Rattle.std.proofs.Common.{◌≡◌, ℕ, ◌+◌, ◌-◌, ◌<◌, ◌≤◌, ◌==◌, Bool, true, false, if◌then◌else◌, List, [], ◌∷◌, ◌++◌, length, refl, subst, arith, length-append, Option, Some, None, Result, Ok}
+use Rattle.std.proofs.Common.{◌≡◌, ℕ, ◌+◌, ◌-◌, ◌<◌, ◌≤◌, ◌==◌, Bool, true, false, if◌then◌else◌, List, [], ◌∷◌, ◌++◌, length, subst, arith, length-append, Option, Some, None, Result, Ok}
 use Rattle.std.specs.Prelude.{nat_lt}
 use Rattle.std.proofs.lemmas.Bool.{ltb-false}
 use Rattle.text_spec.specs.Texts.{TextLine, lines_from}
@@ -7,26 +7,15 @@ use Rattle.script_spec.specs.declared.What.TheVariants.{Bytes, Lines}
 use Rattle.script_spec.specs.declared.ScriptFault.{ScriptFault}
 use Rattle.script_spec.specs.declared.ScriptFault.TheVariants.{TooLarge}
 use Rattle.script_spec.specs.Lines.{ScriptLine}
-use Rattle.script_spec.specs.Grammar.{item_of, items, is_skipped, text_count, spaced_words, item_fault, call_of, calls_of, first_of, fault_if, unless_fault, lines_fault, script_of, most_bytes, most_lines, parse}
+use Rattle.script_spec.specs.Grammar.{item_of, items, is_skipped, text_count, spaced_words, item_fault, call_of, calls_of, lines_fault, script_of, most_bytes, most_lines, parse}
 use Rattle.replay_spec.proofs.KnownLabels.{not_refused}
-
-same_lines : (a b : List ScriptLine) → ◌≡◌ {A = Result (List ScriptLine) ScriptFault} (Ok a) (Ok b) → a ≡ b
-same_lines a b is = cc
-
-faultless : (fault : Option ScriptFault) (more : Result (List ScriptLine) ScriptFault) (lines : List ScriptLine)
-    → unless_fault fault more ≡ Ok lines → (fault ≡ None) × (more ≡ Ok lines)
-faultless None more lines is = (refl, is)
-faultless (Some e) more lines is = cc
-
-within_lines : (over : Bool) (more : List (Option ScriptFault)) → first_of (fault_if over (TooLarge Lines) ∷ more) ≡ None → over ≡ false
-within_lines true more none = cc
-within_lines false more none = refl
+use Rattle.plain_records.proofs.GoodLines.{within_limit, no_fault, ok_same}
 
 module _ (behind : Option ScriptFault) (lines : List ScriptLine) where
   few_calls : (line text : ℕ) (ls : List TextLine) (above : List ScriptLine) → length above < line → length above ≤ most_lines
       → calls_of behind above (items line text ls) ≡ Ok lines → length lines ≤ most_lines
   few_calls line text [] above low few is =
-      subst (λ (ls : List ScriptLine). length ls ≤ most_lines) (same_lines above lines (faultless behind (Ok above) lines is).1) few
+      subst (λ (ls : List ScriptLine). length ls ≤ most_lines) (ok_same above lines (no_fault behind (Ok above) lines is).1) few
   few_calls line text (l ∷ ls) above low few is =
       by (text == 0) (is_skipped l) (λ text' above' low' few' is'. few_calls (line + 1) text' ls above' low' few' is') is
     where
@@ -35,8 +24,8 @@ module _ (behind : Option ScriptFault) (lines : List ScriptLine) where
           → calls_of behind above (item_of line l ls ∷ items (line + 1) text' ls) ≡ Ok lines → length lines ≤ most_lines
       call text' rest is =
           let i = item_of line l ls in
-          let parts = faultless (item_fault above i) (calls_of behind (above ++ call_of above i ∷ []) (items (line + 1) text' ls)) lines is in
-          let within = ltb-false most_lines line (within_lines (nat_lt most_lines line) _ parts.0) in
+          let parts = no_fault (item_fault above i) (calls_of behind (above ++ call_of above i ∷ []) (items (line + 1) text' ls)) lines is in
+          let within = ltb-false most_lines line (within_limit (nat_lt most_lines line) (TooLarge Lines) _ parts.0) in
           let long = length-append above (call_of above i ∷ []) in
           rest text' (above ++ call_of above i ∷ []) (omega (arith, long, low)) (omega (arith, long, low, within)) parts.1
 

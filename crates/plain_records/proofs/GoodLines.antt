@@ -172,7 +172,7 @@ no_cause true line cause more none = cc
 no_cause false line None more none = (refl, none)
 no_cause false line (Some c) more none = cc
 
-within_limit : (over : Bool) (fault : ScriptFault) (more : List (Option ScriptFault)) → first_of (fault_if over fault ∷ more) ≡ None → over ≡ false
+pub within_limit : (over : Bool) (fault : ScriptFault) (more : List (Option ScriptFault)) → first_of (fault_if over fault ∷ more) ≡ None → over ≡ false
 within_limit true fault more none = cc
 within_limit false fault more none = refl
 
@@ -184,12 +184,12 @@ good_item above i none =
     (ltb-false most_tasks (length (task_names (above ++ call ∷ []))) (within_limit (nat_lt most_tasks (length (task_names (above ++ call ∷ [])))) (TooLarge LongTasks) _ parts.1))
 
 -- what is read where nothing has a fault
-no_fault : (fault : Option ScriptFault) (more : Result (List ScriptLine) ScriptFault) (lines : List ScriptLine) → unless_fault fault more ≡ Ok lines
+pub no_fault : (fault : Option ScriptFault) (more : Result (List ScriptLine) ScriptFault) (lines : List ScriptLine) → unless_fault fault more ≡ Ok lines
     → (fault ≡ None) × (more ≡ Ok lines)
 no_fault None more lines is = (refl, is)
 no_fault (Some e) more lines is = cc
 
-ok_same : (a b : List ScriptLine) → ◌≡◌ {A = Result (List ScriptLine) ScriptFault} (Ok a) (Ok b) → a ≡ b
+pub ok_same : (a b : List ScriptLine) → ◌≡◌ {A = Result (List ScriptLine) ScriptFault} (Ok a) (Ok b) → a ≡ b
 ok_same a b is = cc
 
 -- what holds of no calls, and with each good call more, holds of a script

@@ -13,6 +13,7 @@ use Rattle.script_text.specs.declared.line.Line.{Line}
 use Rattle.task_runs.specs.Scripts.{segment, lines_by}
 use Rattle.task_runs.specs.Orders.{NoneWaits}
 use Rattle.task_runs.proofs.Segments.{cut, one, empty, stands_here}
+use Rattle.task_runs.proofs.Orders.{none_both}
 use Rattle.script_acts.specs.Places.{IsWaitAt}
 
 module _ (p n to : ℕ) (xs : List Line) (d : Line) (low : n < to) (high : to ≤ length xs) where
@@ -57,15 +58,11 @@ skip_line p n to xs d low high ne =
 
 -- lines of which none waits for a child, and one more place
 module _ (names : List (List ℕ)) (child : Pid) where
-  none_both : (ls more : List ScriptLine) → NoneWaits names child ls → NoneWaits names child more → NoneWaits names child (ls ++ more)
-  none_both [] more a b = b
-  none_both (l ∷ ls) more a b = (a.0, none_both ls more a.1 b)
-
   module _ (p from n : ℕ) (xs : List Line) (d : Line) (low : from ≤ n) (high : n < length xs)
       (none : NoneWaits names child (segment p from n (map call_seen xs))) where
     more : NoneWaits names child (segment p n (n + 1) (map call_seen xs)) → NoneWaits names child (segment p from (n + 1) (map call_seen xs))
     more last = subst (NoneWaits names child) (sym (cut p from n (n + 1) (map call_seen xs) low (omega arith) (omega (arith, high, long_map call_seen xs))))
-        (none_both (segment p from n (map call_seen xs)) (segment p n (n + 1) (map call_seen xs)) none last)
+        (none_both names child (segment p from n (map call_seen xs)) (segment p n (n + 1) (map call_seen xs)) none last)
 
     pub none_of_own : (get_or xs n d).task ≡ p → ((labels : List (List ℕ)) → IsAskedOfLine labels names (call_seen (get_or xs n d)) (Wait child) → ⊥)
         → NoneWaits names child (segment p from (n + 1) (map call_seen xs))

@@ -20,6 +20,7 @@ use Rattle.smack_base.specs.declared.ids.Pid.{Pid}
 use Rattle.task_runs.specs.Scripts.{lines_by, segment}
 use Rattle.task_runs.specs.Orders.{NoneWaits}
 use Rattle.task_runs.proofs.Segments.{cut}
+use Rattle.task_runs.proofs.Orders.{none_both}
 use Rattle.script_run.specs.Waits.{is_wait, waits_from, AreOutside, AreNoWaits}
 
 -- one more line
@@ -149,13 +150,9 @@ module _ (names : List (List ℕ)) (child : Pid) where
   none_of_child [] none = tt
   none_of_child (l ∷ ls) none = (λ labels is. none.0 is.0, none_of_child ls none.1)
 
-  none_of_both : (ls more : List ScriptLine) → NoneWaits names child ls → NoneWaits names child more → NoneWaits names child (ls ++ more)
-  none_of_both [] more a b = b
-  none_of_both (l ∷ ls) more a b = (a.0, none_of_both ls more a.1 b)
-
   pub none_from : (pid from first last : ℕ) (ls : List ScriptLine) → from ≤ first → first ≤ last → last ≤ length ls
       → AreNoWaits (drop from (take first ls)) → NoneWaits names child (segment pid first last ls) → NoneWaits names child (segment pid from last ls)
   none_from pid from first last ls low high long none behind =
       subst (NoneWaits names child) (sym (cut pid from first last ls low high long))
-      (none_of_both (segment pid from first ls) (segment pid first last ls)
+      (none_both names child (segment pid from first ls) (segment pid first last ls)
       (none_of_child (segment pid from first ls) (none_of_task pid (drop from (take first ls)) none)) behind)

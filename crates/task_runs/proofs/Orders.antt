@@ -13,6 +13,12 @@ use Rattle.replay_spec.specs.Calls.{pid_in}
 use Rattle.task_runs.specs.Scripts.{Scripted, WaitsFor}
 use Rattle.task_runs.specs.Orders.{with_open, without_open, open_after, IsOrderlyBehind, IsOrderly, NoneWaits}
 
+-- none of these lines waits for a child, and none of more behind them
+pub none_both : (names : List (List ℕ)) (child : Pid) (ls more : List ScriptLine) → NoneWaits names child ls → NoneWaits names child more
+    → NoneWaits names child (ls ++ more)
+none_both names child [] more a b = b
+none_both names child (l ∷ ls) more a b = (a.0, none_both names child ls more a.1 b)
+
 -- c is not among these
 abbrev IsNew : ℕ → List ℕ → Type 0
 IsNew c xs = list_any (λ x. x == c) xs ≡ false
