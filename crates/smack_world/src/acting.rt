@@ -82,7 +82,7 @@ fn reply_of(alloc: Global, state: &State, task: u16, call: &Call) -> Result<Repl
 {
     match call {
         Call::Task(call) => Ok(task_reply(state, task, call)),
-        Call::Tree(call) => tree_reply(alloc, state, task, call),
+        Call::Tree(call) => tree_reply(alloc, state, call),
     }
 }
 

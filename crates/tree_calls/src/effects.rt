@@ -1,4 +1,4 @@
-ghost use Rattle.std.specs.Prelude.{◌≡◌, ◌<◌, length, IfOk, OnOk, OnErr};
+ghost use Rattle.std.specs.Prelude.{◌≡◌, ◌<◌, ℕ, length, IfOk, OnOk, OnErr};
 ghost use Rattle.world_spec.specs.Worlds.{most_nodes};
 ghost use Rattle.world_spec.specs.Questions.{tree_asks};
 ghost use Rattle.world_spec.specs.Steps.{tree_effect as tree_effect_of};
@@ -13,15 +13,10 @@ use std::alloc::{AllocError, Global};
 use world_spec::{FileRow, Reply, TreeCall};
 use world_state::State;
 
-/// The reply to a call on the tree that goes through.
-pub fn tree_reply(
-    alloc: Global,
-    state: &State,
-    task: u16,
-    call: &TreeCall,
-) -> Result<Reply, AllocError>
+/// The reply to a call on the tree that goes through, whichever task makes it.
+pub fn tree_reply(alloc: Global, state: &State, call: &TreeCall) -> Result<Reply, AllocError>
     requires { length state.now.files.items < most_nodes }
-    ensures { IfOk result (λ reply. reply ≡ (tree_effect_of (world_seen state.now) task call.now).reply) }
+    ensures { IfOk result (λ reply. (task : ℕ) → reply ≡ (tree_effect_of (world_seen state.now) task call.now).reply) }
 {
     match call {
         TreeCall::Create { path: _ } => Ok(Reply::Ok),
