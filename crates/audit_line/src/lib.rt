@@ -8,7 +8,7 @@
 //! Printing and reading fit: `read_line` gives the parts of each line that can be written, and of no
 //! other bytes.
 //!
-//! Stands on `record_spec`, where the lines are defined, on `smack_base` for labels and modes, on
+//! Stands on `log_spec`, where the lines are defined, on `smack_base` for labels and modes, on
 //! `label_table` for names, and on `itoa` for numbers. Only `put_line` takes memory.
 #![tactic(auto)]
 

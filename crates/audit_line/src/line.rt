@@ -65,8 +65,8 @@ fn put_words(out: &mut Vec<u8>, labels: &Labels, verb: &[u8], v: &Verdict) -> Re
 }
 
 /// Appends the line of a check that a call of this verb asked, as granted or denied, with its line
-/// feed. A label whose id
-/// is not in the table is printed as no bytes. On want of memory `out` is as before.
+/// feed. A label whose id is not in the table is printed as no bytes. On want of memory `out` is as
+/// before.
 #[tactic(auto, using(crate::proofs::Printed::line_printed))]
 pub fn put_line(
     out: &mut Vec<u8>,

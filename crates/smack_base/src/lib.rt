@@ -6,7 +6,8 @@
 //! (`specs/Labels.antt`, `specs/Modes.antt`, `specs/Paths.antt`): a label, a mode set or a path, or
 //! the first fault in the order that the rule gives.
 //!
-//! The crate stands on std alone. Only `push`, `copy`, `from_slice` and `Path::read` take memory.
+//! The crate stands on std alone. Only `push`, `reserve`, `copy`, `from_slice` and
+//! `Path::read` take memory.
 #![tactic(auto)]
 
 mod cap;

@@ -5,8 +5,9 @@
 //! as the definition that the call is named for. At most 256 self rules stand, each of a pair of
 //! its own, and at most 256 labels; a call that would go beyond says so and changes nothing.
 //!
-//! Stands on the words of `smack_base` and the definitions of `rules_spec`. Only `add_self`,
-//! `set_list` and `copy` take memory.
+//! Stands on the words of `smack_base` and the definitions of `rules_spec`. Only the calls that look
+//! at or change self rules (`self_full`, `add_self`, `put_self`), those that set the labels
+//! (`set_list`, `put_list`) and `copy` take memory.
 #![tactic(auto)]
 
 mod cred;

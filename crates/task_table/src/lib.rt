@@ -4,8 +4,8 @@
 //! number; each call changes the row of one task, or adds a row, and leaves all others. A task that
 //! has exited stays, so its credentials can be asked for and its pid is never used again.
 //!
-//! Stands on task_creds for credentials and on signal_box for signals. `first` and `fork` take
-//! memory.
+//! Stands on task_creds for credentials and on signal_box for signals. `first`, `begin` and
+//! `fork` take memory.
 #![tactic(auto)]
 
 mod fault;
