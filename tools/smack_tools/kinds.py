@@ -93,7 +93,7 @@ def number_fault(word: str) -> Optional[Fault]:
         return Fault(at, f"{letter_name(word[at])} is no digit")
     if len(word) > 1 and word.startswith("0"):
         return Fault(0, "a number has no zero in front")
-    if int(word) > MOST_NUMBER:
+    if len(word) > len(str(MOST_NUMBER)) or int(word) > MOST_NUMBER:
         return Fault(0, f"a number is at most {MOST_NUMBER:,}")
     return None
 

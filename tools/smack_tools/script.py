@@ -8,7 +8,7 @@ from typing import Iterator, Optional
 from . import kinds, tables
 
 EXPECTATION = re.compile(r"#\s*expect(?:\s+(.*))?")
-ORIGIN = re.compile(r"# from (.+):(\d+)")
+ORIGIN = re.compile(r"# from (.+):([0-9]{1,9})")
 
 
 @dataclass(frozen=True)
