@@ -6,7 +6,7 @@ from typing import Callable, Optional
 
 from . import kinds, tables
 from .script import Call, Script, Word, looks_like_rule, words_of
-from .screen import with_caret
+from .screen import readable, with_caret
 from .spelling import nearest
 from .text_faults import counted, suspicion
 
@@ -95,7 +95,7 @@ def without_task(words: list[Word]) -> Optional[Found]:
     """The line begins with a verb."""
     if words[0].text not in tables.VERBS:
         return None
-    rest = " ".join(word.text for word in words)
+    rest = readable(" ".join(word.text for word in words))
     return under(words[0], f"the line begins with the verb; a task stands before it: init {rest}")
 
 
@@ -109,9 +109,9 @@ def verb_reason(words: list[Word]) -> Found:
     verb = words[1].text
     near = nearest(verb, tables.VERBS)
     if looks_like_rule(" ".join(word.text for word in words)):
-        return under(words[1], f"{verb} is no verb: the line looks like a rule")
+        return under(words[1], f"{readable(verb)} is no verb: the line looks like a rule")
     hint = f": is it {near}?" if near else f"; the verbs are {' '.join(tables.VERBS)}"
-    return under(words[1], f"{verb} is no verb{hint}")
+    return under(words[1], f"{readable(verb)} is no verb{hint}")
 
 
 def not_built_reason(words: list[Word]) -> Found:

@@ -43,7 +43,7 @@ def answer_in_words(line: Line) -> str:
 
 def stray_misses(script: Script) -> list[Miss]:
     """An expectation that stands before no call asserts nothing, so it is a miss."""
-    return [Miss(one.line, f"`expect {' '.join(one.words)}` stands before no call") for one in script.stray]
+    return [Miss(one.line, f"`expect {one.shown}` stands before no call") for one in script.stray]
 
 
 def refused_writes(account: Account) -> list[Miss]:
@@ -61,10 +61,10 @@ def miss_of(line: Line) -> Optional[Miss]:
     if expected is None:
         return None
     if not expected.words or expected.words[0] not in FIRST_WORDS:
-        return Miss(expected.line, f"`expect {' '.join(expected.words)}`: no answer begins so")
+        return Miss(expected.line, f"`expect {expected.shown}`: no answer begins so")
     if is_met(expected, line):
         return None
-    return Miss(line.call.line, f"expected {' '.join(expected.words)}, got {answer_in_words(line)}")
+    return Miss(line.call.line, f"expected {expected.shown}, got {answer_in_words(line)}")
 
 
 def misses_of(script: Script, account: Account) -> list[Miss]:

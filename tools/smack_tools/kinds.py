@@ -4,6 +4,8 @@ import re
 from dataclasses import dataclass
 from typing import Callable, Optional
 
+from .screen import is_byte, letter_code
+
 MODE_LETTERS = "rwxatb"
 MOST_LABEL_BYTES = 255
 MOST_NUMBER = 4_294_967_295
@@ -40,7 +42,7 @@ def letter_name(letter: str) -> str:
         return f"`{letter}`"
     if letter.isprintable():
         return f"`{letter}`, which is not ASCII,"
-    return f"the unprintable byte {ord(letter) & 0xFF:#04x}"
+    return f"the unprintable {'byte 0x' if is_byte(letter) else 'letter '}{letter_code(letter)}"
 
 
 def first_outside(word: str, allowed: Callable[[str], bool]) -> Optional[int]:

@@ -11,7 +11,7 @@ from typing import Iterator, Optional
 
 from . import kinds, tables
 from .runs import say_cannot_read
-from .screen import say, seen
+from .screen import readable, say
 from .script import count_of_text, lines_of, words_of
 from .text_faults import counted
 
@@ -49,7 +49,7 @@ class Chunk:
         """The lines of the script for this chunk."""
         while self.lines and not self.lines[-1]:
             self.lines.pop()
-        return [f"# from {self.file}:{self.line}", f"init write {self.target} {len(self.lines)}", *self.lines]
+        return [f"# from {readable(self.file)}:{self.line}", f"init write {self.target} {len(self.lines)}", *self.lines]
 
 
 def words_by_blanks(line: str) -> list[str]:
@@ -79,7 +79,7 @@ def fault_of(fields: list[str]) -> Optional[str]:
     for name, kind, word in zip(("subject", "object", "modes", "modes to take away"), judges, fields):
         fault = kind.fault(word)
         if fault:
-            return f"{name} {''.join(map(seen, word))}: {fault.reason}"
+            return f"{name} {readable(word)}: {fault.reason}"
     return None
 
 

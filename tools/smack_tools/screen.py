@@ -3,6 +3,7 @@
 import os
 import sys
 
+MOST_SHOWN = 240
 CODES = {"red": 31, "green": 32, "yellow": 33, "faint": 2}
 
 
@@ -21,15 +22,36 @@ def seen(letter: str) -> str:
     names = {"\r": "<CR>", "\t": "<TAB>", "\ufeff": "<BOM>"}
     if letter in names:
         return names[letter]
-    return letter if letter.isprintable() else f"<{ord(letter) & 0xFF:02x}>"
+    return letter if letter.isprintable() else f"<{letter_code(letter)}>"
+
+
+def is_byte(letter: str) -> bool:
+    """Whether a letter is one byte: ASCII, or a byte that is no part of a letter in UTF-8."""
+    return letter <= "\x7f" or "\udc80" <= letter <= "\udcff"
+
+
+def letter_code(letter: str) -> str:
+    """The number of a letter: that of a byte has two digits."""
+    return f"{ord(letter) & 0xFF:02x}" if is_byte(letter) else f"U+{ord(letter):04X}"
+
+
+def readable(text: str) -> str:
+    """A text as it can be seen, without the middle where it is long."""
+    if len(text) > MOST_SHOWN:
+        text = text[: MOST_SHOWN // 2] + " .. " + text[-MOST_SHOWN // 2 :]
+    return "".join(map(seen, text))
 
 
 def with_caret(number: int, line: str, at: int, width: int = 1) -> str:
-    """A line of a file with its number, and carets under `width` letters from the place `at`."""
+    """A line of a file with its number, and carets under `width` letters from the place `at`. Of a long line
+    it is the part around that place."""
+    first = max(at - MOST_SHOWN // 2, 0) if len(line) > MOST_SHOWN else 0
+    part = line[first : first + MOST_SHOWN]
+    dots = ".. " if first else ""
     begin = f"  {number} | "
-    shown = "".join(map(seen, line))
-    before = "".join(map(seen, line[:at]))
-    under = "".join(map(seen, line[at : at + max(width, 1)]))
+    shown = dots + "".join(map(seen, part)) + (" .." if first + len(part) < len(line) else "")
+    before = dots + "".join(map(seen, part[: at - first]))
+    under = "".join(map(seen, part[at - first : at - first + max(width, 1)]))
     return f"{begin}{shown}\n{' ' * (len(begin) - 2)}| {' ' * len(before)}{'^' * max(len(under), 1)}"
 
 

@@ -6,6 +6,7 @@ from dataclasses import dataclass, field
 from typing import Iterator, Optional
 
 from . import kinds, tables
+from .screen import readable
 
 EXPECTATION = re.compile(r"#\s*expect(?:\s+(.*))?")
 ORIGIN = re.compile(r"# from (.+):([0-9]{1,9})")
@@ -25,6 +26,11 @@ class Expected:
 
     line: int
     words: tuple[str, ...]
+
+    @property
+    def shown(self) -> str:
+        """The words as one line."""
+        return readable(" ".join(self.words))
 
 
 @dataclass(frozen=True)
@@ -128,7 +134,7 @@ def read_script(data: bytes) -> Script:
         at += 1
         if line.startswith("#") or not line.strip(" "):
             found = ORIGIN.fullmatch(line)
-            origin = Origin(found[1], int(found[2])) if found else origin
+            origin = Origin(readable(found[1]), int(found[2])) if found else origin
             expected = next_expected(script, expected, line, at)
             continue
         call = next_call(lines, at, seqs)

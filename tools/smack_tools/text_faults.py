@@ -5,7 +5,7 @@ from dataclasses import dataclass
 from typing import Optional
 
 from . import kinds, tables
-from .screen import seen
+from .screen import readable
 from .script import Call, looks_like_call, looks_like_rule
 
 # The mode letters of the fixed-width files, and the places of the fields that a refusal names.
@@ -67,7 +67,7 @@ def text_fault(call: Call, refusal: tuple[str, ...]) -> TextFault:
         return TextFault(number, f"it has {refusal[3]} bytes, and a line for {file} has {tables.WIDE_LINE}")
     word = bad_field(kind, fields_of(file, line))
     fault = field_reason(kind, file, word)
-    return TextFault(number, f"{''.join(map(seen, word))}: {fault.reason}" if fault else " ".join(refusal[2:]))
+    return TextFault(number, f"{readable(word)}: {fault.reason}" if fault else " ".join(refusal[2:]))
 
 
 def suspicion(call: Call, next_line: str = "") -> str:

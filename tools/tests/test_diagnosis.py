@@ -73,6 +73,26 @@ class TestBadLines(FrontDoorTest):
         text = "init write load2 1\nMail Spool rw\nMail Log a\ninit ask Mail Spool r\n"
         self.refused(text, "smack: line 3: verb", "line 1 ends before line 3", "its count 1 too small?")
 
+    def test_numbers_of_many_digits(self) -> None:
+        digits = "1" * 5000
+        self.refused(f"init write load2 {digits}\n", "smack: line 1: word 4", "a number is at most 4,294,967,295")
+        self.refused(f"# from mail:{digits}\ninit frob\n", "smack: line 2: verb")
+
+    def test_a_long_line_is_cut(self) -> None:
+        said = self.refused("init ask Mail " + "S" * 100_000 + " r\n", "smack: line 1: word 4", "and this has 100000")
+        self.assertLess(len(said.err), 1000)
+        said = self.refused("init " + "s" * 100_000 + "\n", "smack: line 1: verb")
+        self.assertLess(len(said.err), 2000)
+        said = self.refused(" " * 1000 + "init ask Mail Spool rz\n", "smack: line 1: word 5", ".. ")
+        self.assertEqual(self.caret(said), "z")
+
+    def test_letters_that_are_not_shown(self) -> None:
+        said = self.refused("init \x1b[2J Mail\n", "smack: line 1: verb", "<1b>[2J is no verb")
+        self.assertNotIn("\x1b", said.err)
+        self.refused("init ask Mail\u00a0Spool r\n", "smack: line 1: words", "Mail<U+00A0>Spool")
+        self.refused("init ask Mail Sp\u200bool r\n", "smack: line 1: word 4", "the unprintable letter U+200B")
+        self.refused(b"init ask Mail Sp\xffool r\n", "smack: line 1: word 4", "the unprintable byte 0xff")
+
     def test_count_beyond_the_end(self) -> None:
         text = "init write load2 9\nMail Spool rw\ninit ask Mail Spool r\n"
         parts = ("9 lines by this count, and 2 lines follow", "line 3 in its text looks like a call")

@@ -22,6 +22,11 @@ class TestScripts(FrontDoorTest):
         )
         self.assertEqual((said.status, said.out, said.err), (0, script, ""))
 
+    def test_a_name_with_a_line_feed_stays_in_its_comment(self) -> None:
+        policy = self.file("a\ninit exit", "Mail Spool r\n")
+        said = self.smack("policy", policy)
+        self.assertEqual(said.out.splitlines()[1:], ["init write load2 1", "Mail Spool r"])
+
     def test_the_record_has_the_rules_in_order(self) -> None:
         policy = self.file("mail", "Mail Spool rwx\nMail Spool a w\nGuest Spool r\n")
         script = self.file("mail.smack", self.smack("policy", policy).out)

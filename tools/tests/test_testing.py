@@ -77,6 +77,9 @@ class TestExpectations(FrontDoorTest):
             text, "1: `expect deny` stands before no call", "4: `expect deny` stands before no call", status=1
         )
 
+    def test_an_expectation_is_shown_as_it_can_be_seen(self) -> None:
+        self.assert_test("# expect \x1b[2J\ninit ask A A r\n", "1: `expect <1b>[2J`: no answer begins so", status=1)
+
     def test_comments_that_expect_nothing(self) -> None:
         self.assert_test("# expected of all\n# we expect deny\ninit ask A A r\n", status=0)
 
