@@ -17,6 +17,7 @@ from .text_faults import counted
 
 FILE_OF_FIELDS = {3: "load2", 4: "change-rule"}
 ANSWERS = ("allow", "deny")
+BYTE_ORDER_MARK = "the file begins with a byte-order mark: save it without one"
 WINDOWS_END = "the line ends with a carriage return, as Windows writes lines"
 
 
@@ -72,7 +73,7 @@ def fault_of(fields: list[str]) -> Optional[str]:
     if any(word.endswith("\r") for word in fields):
         return WINDOWS_END
     if fields[0].startswith("\ufeff"):
-        return "the file begins with a byte-order mark"
+        return BYTE_ORDER_MARK
     if len(fields) not in FILE_OF_FIELDS:
         return f"{counted(len(fields), 'field')}, and a rule has three (subject, object, modes) or four"
     judges = (kinds.LABEL, kinds.LABEL, kinds.MODES, kinds.MODES)
@@ -149,6 +150,8 @@ def question_lines(name: str, lines: list[str], bad: list[Bad]) -> list[str]:
 
 def question_fault(fields: list[str]) -> Optional[str]:
     """Why a short question is none; None where it is one."""
+    if fields[0].startswith("\ufeff"):
+        return BYTE_ORDER_MARK
     if len(fields) < 3 or (len(fields) > 3 and fields[3] not in ANSWERS):
         return "a question is SUBJECT OBJECT MODES, with allow or deny and a case behind it if you like; or a call"
     return fault_of(fields[:3])

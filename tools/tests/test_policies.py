@@ -125,6 +125,14 @@ class TestBadLines(FrontDoorTest):
             self.assertIn("\n= bad-line 1 ", self.smack("replay", script).out)
             self.assertEqual(self.smack("policy", self.file("p", line + "\n")).status, 1)
 
+    def test_a_byte_order_mark(self) -> None:
+        policy = self.file("mail", "Mail Spool rw\n")
+        for text in ("# asked\n", "Mail Spool r\n", "init ask Mail Spool r\n"):
+            questions = self.file("questions", "\ufeff" + text)
+            said = self.smack("policy", policy, "--questions", questions)
+            self.assertEqual((said.status, said.out), (1, ""))
+            self.assertIn(f"{questions}:1: the file begins with a byte-order mark", said.err)
+
     def test_a_bad_question(self) -> None:
         policy = self.file("mail", "Mail Spool rw\n")
         questions = self.file("questions", "Mail Spool\nMail Spool r perhaps\n")
