@@ -198,7 +198,7 @@ def doubt_before(script: Script, number: int, cause: str) -> str:
 def too_large(script: Script, what: str) -> str:
     """Which limit a script breaks, and where."""
     reasons: dict[str, Callable[[], str]] = {
-        "bytes": lambda: f"the script has {len(script.data):,} bytes, and the limit is {tables.MOST_BYTES:,}",
+        "bytes": lambda: f"the script has more than {tables.MOST_BYTES:,} bytes, which is the limit",
         "lines": lambda: f"the script has {len(script.lines):,} lines, and the limit is {tables.MOST_LINES:,}",
         "text": lambda: large_text(script),
         "labels": lambda: f"a script has at most {tables.MOST_LABELS:,} labels, with the five predefined",

@@ -1,10 +1,12 @@
 """A script that was run by the program, with its record and the account of it."""
 
+import errno
+import os
 import sys
 from dataclasses import dataclass
-from pathlib import Path
 from typing import Optional
 
+from . import tables
 from .account import Account, tell
 from .diagnosis import diagnose
 from .program import Outcome, Program
@@ -32,8 +34,14 @@ class Run:
 
 
 def read_file(name: str) -> bytes:
-    """The bytes of a file; `-` is standard input."""
-    return sys.stdin.buffer.read() if name == "-" else Path(name).read_bytes()
+    """The bytes of a file, at most one more than a script may have; `-` is standard input. Raises OSError."""
+    most = tables.MOST_BYTES + 1
+    if name == "-":
+        if sys.stdin is None:
+            raise OSError(errno.EBADF, os.strerror(errno.EBADF))
+        return sys.stdin.buffer.read(most)
+    with open(name, "rb") as file:
+        return file.read(most)
 
 
 def run_script(program: Program, name: str, data: bytes) -> Run:

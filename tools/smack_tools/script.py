@@ -83,9 +83,8 @@ class Call:
 
 @dataclass
 class Script:
-    """A script: its bytes, its lines and its calls, and the expectations that stand before no call."""
+    """A script: its lines and its calls, and the expectations that stand before no call."""
 
-    data: bytes
     lines: list[str]
     calls: list[Call]
     stray: list[Expected]
@@ -124,7 +123,7 @@ def count_of_text(words: list[Word]) -> int:
 def read_script(data: bytes) -> Script:
     """The script that the bytes are."""
     lines = lines_of(data)
-    script = Script(data, lines, [], [])
+    script = Script(lines, [], [])
     seqs: dict[str, int] = {}
     expected: Optional[Expected] = None
     origin: Optional[Origin] = None

@@ -122,7 +122,7 @@ class TestLimits(FrontDoorTest):
     def test_too_many_bytes(self) -> None:
         said = self.smack("replay", self.file("big.smack", b"#" * 4_194_305))
         self.assertEqual((said.status, said.out), (7, ""))
-        self.assertIn("4,194,305 bytes, and the limit is 4,194,304", said.err)
+        self.assertIn("more than 4,194,304 bytes", said.err)
 
 
 class TestTasks(unittest.TestCase):
