@@ -83,8 +83,12 @@ def main(arguments: Optional[list[str]] = None) -> int:
     """Runs a command; its exit status."""
     arguments = list(arguments or [])
     now = arguments[:1] == ["--now"]
+    sys.stderr = sys.stderr or open(os.devnull, "w", encoding="utf-8")
+    if sys.stdout is None:
+        print("smack: write fault", file=sys.stderr)
+        return WRITE_FAULT
     for stream in (sys.stdout, sys.stderr):
-        stream.reconfigure(errors="surrogateescape")
+        stream.reconfigure(encoding="utf-8", errors="surrogateescape")
     words = parser().parse_args(arguments[1:] if now else arguments)
     if now:
         say(NOTHING_PROVED)

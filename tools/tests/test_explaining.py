@@ -1,6 +1,7 @@
 """smack explain: the reason beside each answer, and the fold that is compared with the record."""
 
 import json
+import os
 
 from smack_tools.account import tell
 from smack_tools.record import read_record
@@ -140,6 +141,22 @@ class TestRefused(FrontDoorTest):
         self.assertEqual((said.status, said.err), (5, "smack: write fault\n"))
         said = ended(["sh", "-c", f"'{SMACK}' explain '{EXAMPLES}/first.smack' | head -1"])
         self.assertEqual((said.status, said.err), (0, ""))
+
+
+    def test_streams_that_are_closed(self) -> None:
+        script = EXAMPLES / "first.smack"
+        said = ended(["sh", "-c", f"'{SMACK}' explain '{script}' >&-"])
+        self.assertEqual((said.status, said.err), (5, "smack: write fault\n"))
+        said = ended(["sh", "-c", f"'{SMACK}' explain - <&-"])
+        self.assertEqual((said.status, said.out, said.err), (4, "", "smack: cannot read -: Bad file descriptor\n"))
+        said = ended(["sh", "-c", f"'{SMACK}' explain '{self.folder}/none' 2>&-"])
+        self.assertEqual((said.status, said.out), (4, ""))
+
+    def test_letters_that_the_locale_lacks(self) -> None:
+        script = self.file("a.smack", "init frob\u00f6\n")
+        said = ended([SMACK, "explain", script], environment={**os.environ, "PYTHONIOENCODING": "ascii"})
+        self.assertEqual(said.status, 3)
+        self.assertIn("frob\u00f6 is no verb", said.err)
 
 
 class TestFold(FrontDoorTest):
