@@ -51,6 +51,7 @@ class Teller:
         self.rules = Rules()
         self.reasons = Reasons(self.rules)
         self.tasks = {"init": Task()}
+        self.parents: dict[str, str] = {}
         self.owners: dict[str, str] = {}
         self.account = Account()
 
@@ -128,6 +129,7 @@ class Teller:
         """The effect of an object call on its task, on the tasks there are, and on who owns a socket."""
         if entry.words[0] == "fork" and entry.reply[0] == "child":
             self.tasks[entry.words[1]] = task.child()
+            self.parents[entry.words[1]] = call.task
         if entry.words[0] == "socket" and entry.reply[0] == "ok":
             self.owners[entry.words[2]] = call.task
         task.take(entry, places_of_text(call) or [f"line {call.line}"], self.rules)
@@ -154,6 +156,17 @@ class Teller:
             line.refused = True
             why_not = self.tasks.get(call.task, Task()).why_not(ADMIN, self.rules)
             line.reason = refusal_reason(call, asked.reply, why_not)
+        elif asked.words[0] == "wait":
+            self.end(asked.words[1])
+
+    def end(self, name: str) -> None:
+        """Ends the lines of a task that was waited for, and of those that descend from it."""
+        gone = {name}
+        for child, parent in self.parents.items():
+            if parent in gone:
+                gone.add(child)
+        for one in gone & self.tasks.keys():
+            self.tasks[one].ended = True
 
 
 def places_of_text(call: Call) -> list[str]:

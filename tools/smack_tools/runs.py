@@ -44,9 +44,12 @@ def read_file(name: str) -> bytes:
         return file.read(most)
 
 
-def run_script(program: Program, name: str, data: bytes) -> Run:
-    """Replays a script and tells of it. Raises RecordError where the record cannot be read."""
+def run_script(program: Program, name: str, data: bytes, lines: Optional[list[int]] = None) -> Run:
+    """Replays a script and tells of it, with other numbers for the lines of its calls where they are given.
+    Raises RecordError where the record cannot be read."""
     script = read_script(data)
+    for call, line in zip(script.calls, lines or ()):
+        call.line = line
     outcome = program.run("replay", data)
     if outcome.status != 0:
         return Run(name, script, outcome, None, None)

@@ -129,9 +129,10 @@ def make_plan(program: Program, run: Run) -> tuple[Plan, Run, list[Optional[int]
         if not add_denials(plan, run, tried, places):
             break
         data, places = with_rules(run, plan)
-        tried = run_script(program, run.name, data)
+        lines = [0 if place is None else run.script.calls[place].line for place in places]
+        tried = run_script(program, run.name, data, lines)
         if tried.account is None:
-            raise RecordError("the script with these rules was refused: " + tried.why_refused())
+            raise RecordError("the script with these rules was refused: " + tried.outcome.line)
     return plan, tried, places
 
 

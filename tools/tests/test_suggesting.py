@@ -61,6 +61,21 @@ class TestSuggestions(FrontDoorTest):
             "# with 1 rule: 0 of 1 denial left",
         )
 
+    def test_a_task_that_was_waited_for_loads_no_rule_behind_the_wait(self) -> None:
+        text = "init fork B\nB fork C\ninit drop mac-admin\ninit wait B\ninit ask Mail Spool r\n"
+        self.suggested(text, "Mail Spool r  # asked by line 5", "# with 1 rule: 0 of 1 denial left")
+
+    def test_what_is_left_is_told_by_the_lines_of_the_script(self) -> None:
+        text = "init relabel Mail\ninit drop mac-override\ninit ask Guest Spool r\ninit write load-self2 1\n"
+        text += "Mail Mail r\ninit trace attach init\n"
+        why = "case 8: a self rule only restricts, and no rule goes over it: self rule r of line 5 lacks w"
+        self.suggested(
+            text,
+            "Guest Spool r  # asked by line 3",
+            "# with 1 rule: 1 of 2 denials left",
+            f"#   line 6: init trace attach init: {why}",
+        )
+
     def test_a_denial_that_the_script_expects_stays(self) -> None:
         text = RULE + "# expect deny\ninit ask Mail Spool w\n# expect allow\ninit ask Mail Spool x\n"
         self.suggested(
