@@ -8,7 +8,7 @@ from typing import Optional
 from . import tables
 from .judging import asked_answer, check_answer
 from .reasons import Reasons, Told
-from .record import Asked, Batch, Entry, Record
+from .record import Asked, Batch, Entry, Record, RecordError
 from .rules import Rules
 from .script import Call, Script
 from .tasks import ADMIN, Task
@@ -183,5 +183,8 @@ def places_of_writes(call: Call, count: int) -> list[str]:
 
 
 def tell(script: Script, record: Record) -> Account:
-    """The account of a run of the script with this record."""
-    return Teller(script, record).tell()
+    """The account of a run of the script with this record. Raises RecordError where the record lacks words."""
+    try:
+        return Teller(script, record).tell()
+    except (IndexError, KeyError, ValueError) as error:
+        raise RecordError(f"the record cannot be told: {error!r}") from error

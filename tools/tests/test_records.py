@@ -96,6 +96,13 @@ class TestForms(unittest.TestCase):
         with self.assertRaisesRegex(RecordError, "line 2 of the record"):
             read_record(b"smack 1\nz 0 init\nend 0 0 0\n")
 
+    def test_lines_that_lack_words(self) -> None:
+        script = read_script(b"init ask A A r\n")
+        for lines in ("q 0.1 v0 ask A A r\n", "q 0.1 v0 ask A A r\n= allow\n", "q 1.1 v0 ask A A r\n= allow 5\n"):
+            record = read_record(f"smack 1\ntask 0 init\n{lines}end 0 0 1\n".encode())
+            with self.assertRaisesRegex(RecordError, "cannot be told"):
+                tell(script, record)
+
     def test_another_format(self) -> None:
         with self.assertRaisesRegex(RecordError, "format 2"):
             read_record(b"smack 2\nend 0 0 0\n")
