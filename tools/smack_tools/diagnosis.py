@@ -79,7 +79,7 @@ def reason_of(script: Script, number: int, words: list[Word], cause: str) -> Fou
         "text": lambda: text_reason(script, number, words),
         "task": lambda: task_reason(script, number, words),
         "name": lambda: name_reason(words),
-        "wait": lambda: under(words[-1], "a task waits for the latest task that it forked and has not waited for"),
+        "wait": lambda: wait_reason(script, number, words),
     }
     if cause in reasons:
         return reasons[cause]()
@@ -179,6 +179,18 @@ def name_reason(words: list[Word]) -> Found:
     if verb == "fork":
         return under(name, f"there is a task {name.text} already: each fork makes a name of its own")
     return under(name, f"no line before this one forks a task {name.text}")
+
+
+def wait_reason(script: Script, number: int, words: list[Word]) -> Found:
+    """The task is not the one that may be waited for."""
+    children = []
+    for call in script.calls:
+        if call.line < number and call.task == words[0].text and call.verb == "fork":
+            children.append(call.word(2))
+        elif call.line < number and call.task == words[0].text and call.verb == "wait":
+            children.pop()
+    latest = children[-1] if children else "there is none"
+    return under(words[2], f"a task waits for the child that it forked last and has not waited for: {latest}")
 
 
 def doubt_before(script: Script, number: int, cause: str) -> str:

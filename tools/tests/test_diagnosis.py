@@ -142,6 +142,12 @@ class TestTasks(unittest.TestCase):
         text = "init fork B\ninit wait B\nB exit\n"
         self.assertIn("the task B was waited for in line 2", self.told(text, "smack: line 3: task"))
 
+    def test_tasks_that_are_not_the_latest_child(self) -> None:
+        text = "init fork B\ninit fork C\nC fork D\ninit wait B\n"
+        self.assertIn("forked last and has not waited for: C", self.told(text, "smack: line 4: wait"))
+        text = "init fork B\ninit wait B\ninit wait B\n"
+        self.assertIn("and has not waited for: there is none", self.told(text, "smack: line 3: wait"))
+
     def test_what_is_not_built(self) -> None:
         said = self.told("init open /f r\n", "smack: line 1: not-built")
         self.assertIn("the verb open is not built into this program yet", said)

@@ -59,6 +59,14 @@ class TestTasks(unittest.TestCase):
         self.assertEqual(account.differences, [])
         self.assertEqual(account.lines[-1].reason, "ptrace policy 2 wants equal labels")
 
+    def test_ptrace_of_equal_labels(self) -> None:
+        script = "init write ptrace 1\n1\ninit trace attach init\n"
+        record = "smack 1\ntask 0 init\nj 1 0.1 1\no ptrace 1\nh 1 0.2 v1 trace attach init\n"
+        record += "c _ _ rw allow 10\n= ok\nend 1 1 0\n"
+        account = account_of(script, record)
+        self.assertEqual(account.differences, [])
+        self.assertEqual(account.lines[-1].checks[0].reason, "ptrace policy 1 wants equal labels, as these are")
+
     def test_a_mapping(self) -> None:
         script = "init write load2 2\nM X rw\nT X r\ninit relabel T\ninit drop mac-override\n"
         script += "init open /f r\ninit map 0\n"
