@@ -27,6 +27,7 @@ class Reasons:
 
     def __init__(self, rules: Rules) -> None:
         self.rules = rules
+        # By a label and the number of labels that there are, since these only grow.
         self.near: dict[tuple[str, int], Optional[str]] = {}
 
     def tell(self, verdict: Verdict, task: Optional[Task]) -> Told:
@@ -77,7 +78,7 @@ class Reasons:
 
     def near_label(self, label: str) -> Optional[str]:
         """A label of the rules that is spelled almost like this one."""
-        key = (label, self.rules.version)
+        key = (label, len(self.rules.labels))
         if key not in self.near:
             self.near[key] = nearest(label, self.rules.labels)
         return self.near[key]
@@ -87,8 +88,7 @@ class Reasons:
         near = nearest(object_, self.rules.by_subject.get(subject, ()), most=1)
         if near:
             return f"{self.rules.rules[subject, near].place} has one for {subject} {near}"
-        others = [other for other, objects in self.rules.by_subject.items() if object_ in objects]
-        near = nearest(subject, others, most=1)
+        near = nearest(subject, self.rules.by_object.get(object_, ()), most=1)
         return f"{self.rules.rules[near, object_].place} has one for {near} {object_}" if near else ""
 
 

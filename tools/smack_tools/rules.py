@@ -33,6 +33,7 @@ class Rules:
     version: int = 0
     rules: dict[tuple[str, str], Rule] = field(default_factory=dict)
     by_subject: dict[str, set[str]] = field(default_factory=dict)
+    by_object: dict[str, set[str]] = field(default_factory=dict)
     labels: set[str] = field(default_factory=set)
     only: list[str] = field(default_factory=list)
     only_place: str = ""
@@ -59,6 +60,7 @@ class Rules:
         """The pair has this rule from now on."""
         self.rules[subject, object_] = rule
         self.by_subject.setdefault(subject, set()).add(object_)
+        self.by_object.setdefault(object_, set()).add(subject)
         self.labels.update((subject, object_))
 
     def changed(self, words: tuple[str, ...], place: str) -> Rule:

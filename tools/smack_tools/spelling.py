@@ -1,6 +1,7 @@
 """Words that differ from a word as a slip of the fingers does."""
 
 import re
+from functools import lru_cache
 from typing import Iterable, Optional
 
 MOST_SLIPS = 2
@@ -28,6 +29,13 @@ def slips(one: str, other: str, most: int = MOST_SLIPS) -> int:
     return row[-1]
 
 
+@lru_cache(maxsize=None)
+def letters_of(word: str) -> frozenset[str]:
+    """The letters of a word. A slip puts one more in, and leaves one out, at most."""
+    return frozenset(word)
+
+
+@lru_cache(maxsize=None)
 def without_numbers(word: str) -> str:
     """A word with one letter in the place of each number. Names that differ in a number alone are no slip."""
     return re.sub(r"[0-9]+", "0", word)
@@ -39,15 +47,14 @@ def nearest(word: str, words: Iterable[str], most: int = MOST_SLIPS) -> Optional
     may differ in upper and lower case."""
     most = min(most, 2 if len(word) > 5 else 1 if len(word) > 2 else 0)
     best, least = None, most + 1
-    plain = without_numbers(word)
+    plain, lower, letters = without_numbers(word), word.lower(), letters_of(word)
     for other in words:
-        if other == word:
+        if other == word or abs(len(other) - len(word)) > most:
             continue
-        if other.lower() == word.lower():
-            return other
-        if abs(len(other) - len(word)) > most or without_numbers(other) == plain:
+        same = other.lower() == lower
+        if not same and (len(letters ^ letters_of(other)) > 2 * most or without_numbers(other) == plain):
             continue
-        found = slips(word, other, most)
+        found = 0 if same else slips(word, other, most)
         if found < least or (found == least and best is not None and other < best):
             best, least = other, found
     return best if least <= most else None

@@ -42,6 +42,10 @@ class TestReasons(FrontDoorTest):
         text = APPS + "init ask Guest System::Log r\n"
         self.assert_last(text, "4  init ask Guest System::Log r: deny 7: no rule: label Guest stands in no rule")
 
+    def test_a_label_that_differs_in_case_from_two(self) -> None:
+        text = "init write load2 2\nMail Run r\nMAIL Log r\ninit ask mail Run r\n"
+        self.assert_last(text, "4  init ask mail Run r: deny 7: no rule: label mail stands in no rule; MAIL does")
+
     def test_a_slip_in_the_rules(self) -> None:
         text = "init write load2 2\nviewer Run r\nveiwer Log r\ninit ask viewer Log r\n"
         self.assert_last(text, "4  init ask viewer Log r: deny 7: no rule: line 3 has one for veiwer Log")
