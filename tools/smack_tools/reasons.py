@@ -55,7 +55,8 @@ class Reasons:
             own = task.self_rules.get((verdict.subject, verdict.object))
             return lacks("self rule", own, verdict) if own else "a self rule"
         if case == 10:
-            return f"ptrace policy {self.rules.ptrace} wants equal labels" + (", as these are" if verdict.allowed else "")
+            equal = ", as these are" if verdict.allowed else ""
+            return f"ptrace policy {self.rules.ptrace} wants equal labels{equal}"
         if case == 11:
             return "the mapping rule of SMACK64MMAP" + ("" if verdict.allowed else f": {self.missing(verdict, rule)}")
         return f"case {case}"
