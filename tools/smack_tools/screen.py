@@ -56,6 +56,9 @@ def with_caret(number: int, line: str, at: int, width: int = 1) -> str:
 
 
 def say(text: str) -> None:
-    """A line on standard error."""
+    """A line on standard error. Where that cannot be written, nothing is said there any more."""
     sys.stdout.flush()
-    print(text, file=sys.stderr)
+    try:
+        print(text, file=sys.stderr, flush=True)
+    except OSError:
+        sys.stderr = open(os.devnull, "w", encoding="utf-8")

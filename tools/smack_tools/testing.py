@@ -14,12 +14,14 @@ from .text_faults import counted
 
 @dataclass(frozen=True)
 class Tested:
-    """How a file did: what to print, how many expectations it has, and how many things are wrong."""
+    """How a file did: what to print, how many expectations it has, how many things are wrong, and whether it was
+    run."""
 
     name: str
     lines: list[str]
     expected: int
     missed: int
+    ran: bool = False
 
 
 def test_file(program: Program, name: str) -> Tested:
@@ -35,7 +37,7 @@ def test_file(program: Program, name: str) -> Tested:
     misses = misses_of(run.script, run.account)
     lines = [f"{name}:{miss.line}: {miss.what}" for miss in misses]
     lines += [f"{name}:{line.call.line}: note: {line.note}" for line in run.account.lines if line.note]
-    return Tested(name, lines, count_of(run.script), len(misses))
+    return Tested(name, lines, count_of(run.script), len(misses), True)
 
 
 def test(program: Program, names: list[str], at_once: int) -> int:
@@ -46,7 +48,7 @@ def test(program: Program, names: list[str], at_once: int) -> int:
         for tested in workers.map(lambda name: test_file(program, name), names):
             for line in tested.lines:
                 print(line)
-            if not tested.expected:
+            if tested.ran and not tested.expected:
                 say(f"smack: {tested.name} has no line `# expect ..`, so it tests nothing but its writes")
             expected += tested.expected
             missed += tested.missed

@@ -107,6 +107,7 @@ class TestFiles(FrontDoorTest):
         said = self.smack("test", self.folder / "none.smack")
         self.assertEqual(said.status, 1)
         self.assertIn("none.smack: cannot be read", said.out)
+        self.assertEqual(said.err, "")
 
     def test_the_examples(self) -> None:
         said = self.smack("test", "-j", "2", *sorted(EXAMPLES.glob("*.smack")))
