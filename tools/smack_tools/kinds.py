@@ -60,12 +60,12 @@ def is_label_letter(letter: str) -> bool:
     return is_printable(letter) and letter not in "/\\'\""
 
 
-def label_fault(word: str) -> Optional[Fault]:
+def label_fault(word: str, most: int = MOST_LABEL_BYTES) -> Optional[Fault]:
     """The first fault of a label: empty, too long, a leading dash, a bad letter."""
     if not word:
         return Fault(0, "a label has at least one letter")
-    if byte_count(word) > MOST_LABEL_BYTES:
-        return Fault(0, f"a label has at most {MOST_LABEL_BYTES} bytes, and this has {byte_count(word)}")
+    if byte_count(word) > most:
+        return Fault(0, f"a label has at most {most} bytes, and this has {byte_count(word)}")
     if word.startswith("-"):
         return Fault(0, "a label does not begin with a dash")
     at = first_outside(word, is_label_letter)

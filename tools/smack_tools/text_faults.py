@@ -8,8 +8,10 @@ from . import kinds, tables
 from .screen import readable
 from .script import Call, looks_like_call, looks_like_rule
 
-# The mode letters of the fixed-width files, and the places of the fields that a refusal names.
+# The mode letters of the fixed-width files and the most bytes of their labels; the places of the fields that a
+# refusal names.
 WIDE_MODES = "rwxat"
+MOST_WIDE_LABEL_BYTES = 23
 FIELD_PLACES = {"subject": 0, "object": 1, "allow": 2, "deny": 3, "number": 0}
 
 
@@ -43,7 +45,8 @@ def counted(number: int, one: str, more: str = "") -> str:
 def field_reason(kind: str, file: str, word: str) -> Optional[kinds.Fault]:
     """Why a field is bad; the kind is the word of the refusal."""
     if kind in ("subject", "object", "label"):
-        return kinds.label_fault(word)
+        wide = file in tables.WIDE_FILES
+        return kinds.label_fault(word, MOST_WIDE_LABEL_BYTES if wide else kinds.MOST_LABEL_BYTES)
     if kind in ("allow", "deny"):
         return kinds.mode_fault(WIDE_MODES if file in tables.WIDE_FILES else kinds.MODE_LETTERS)(word)
     return kinds.Fault(0, f"{file} takes {tables.WORD_FILES.get(file, 'a number')}")
@@ -60,9 +63,12 @@ def text_fault(call: Call, refusal: tuple[str, ...]) -> TextFault:
     """The fault that `bad-line LINE FAULT` names, in the text of a call."""
     file, number, kind = call.word(2), int(refusal[1]), refusal[2]
     line = call.text[number - 1] if number <= len(call.text) else ""
+    wanted = fields_wanted(file)
+    if kind == "fields" and file in tables.WORD_FILES:
+        return TextFault(number, f"the text has {counted(int(refusal[3]), 'word')}, and {file} takes {wanted}")
     if kind == "fields":
         stands = counted(int(refusal[3]), "field stands", "fields stand")
-        return TextFault(number, f"{stands} there, and a line for {file} has {fields_wanted(file)}")
+        return TextFault(number, f"{stands} there, and a line for {file} has {wanted}")
     if kind == "width":
         return TextFault(number, f"it has {refusal[3]} bytes, and a line for {file} has {tables.WIDE_LINE}")
     word = bad_field(kind, fields_of(file, line))

@@ -99,7 +99,9 @@ class TestReasons(FrontDoorTest):
             ("load2", "Mail Spool r\r", f"r<CR>: a carriage return is no mode: {letters}"),
             ("change-rule", "Mail Spool r q", f"q: `q` is no mode: {letters}"),
             ("load", "Mail Spool r", "it has 12 bytes, and a line for load has 53"),
-            ("ambient", "A B", "2 fields stand there, and a line for ambient has one label"),
+            ("load", f"{'M' * 24}{'Spool':24}r----", f"{'M' * 24}: a label has at most 23 bytes, and this has 24"),
+            ("ambient", "A B", "the text has 2 words, and ambient takes one label"),
+            ("ambient", "", "the text has 0 words, and ambient takes one label"),
             ("ptrace", "3", "3: ptrace takes 0, 1 or 2"),
             ("onlycap", "Admin -", "-: a label does not begin with a dash"),
         )
@@ -153,8 +155,9 @@ class TestRefused(FrontDoorTest):
         self.assertEqual((said.status, said.err), (5, "smack: write fault\n"))
         said = ended(["sh", "-c", f"'{SMACK}' explain - <&-"])
         self.assertEqual((said.status, said.out, said.err), (4, "", "smack: cannot read -: Bad file descriptor\n"))
-        said = ended(["sh", "-c", f"'{SMACK}' explain '{self.folder}/none' 2>&-"])
-        self.assertEqual((said.status, said.out), (4, ""))
+        for nowhere in ("2>&-", "2>/dev/full"):
+            said = ended(["sh", "-c", f"'{SMACK}' explain '{self.folder}/none' {nowhere}"])
+            self.assertEqual((said.status, said.out), (4, ""))
 
     def test_letters_that_the_locale_lacks(self) -> None:
         script = self.file("a.smack", "init frob\u00f6\n")
