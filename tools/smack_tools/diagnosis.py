@@ -128,7 +128,8 @@ def words_reason(words: list[Word]) -> Found:
     """The number of words is another."""
     verb = words[1].text
     wanted = tables.VERBS.get(verb, ())
-    reason = f"{verb} takes {counted(len(wanted), 'word')}, and {len(words) - 2} stand there: {form_of(verb)}"
+    there = counted(len(words) - 2, "stands there", "stand there")
+    reason = f"{verb} takes {counted(len(wanted), 'word')}, and {there}: {form_of(verb)}"
     if len(words) - 2 > len(wanted):
         spare = words[2 + len(wanted)]
         return Found(spare.at, words[-1].at + len(words[-1].text) - spare.at, reason)
@@ -138,6 +139,8 @@ def words_reason(words: list[Word]) -> Found:
 def word_reason(words: list[Word], k: int) -> Found:
     """The k-th word, counted from the task as 1, is not of its kind."""
     word = words[k - 1]
+    if k == 1 and word.text.startswith("#"):
+        return under(word, "a comment begins with the first letter of its line, without a space in front")
     if k == 1:
         fault = kinds.task_fault(word.text)
         return under(word, fault.reason if fault else "it is no name of a task")

@@ -8,7 +8,7 @@ from typing import Iterator, Optional
 from . import kinds, tables
 from .screen import readable
 
-EXPECTATION = re.compile(r"#\s*expect(?:\s+(.*))?")
+EXPECTATION = re.compile(r"#\s*expect(?:[:=]?\s+(.*))?", re.IGNORECASE)
 ORIGIN = re.compile(r"# from (.+):([0-9]{1,9})")
 
 

@@ -62,6 +62,12 @@ class TestBadLines(FrontDoorTest):
         said = self.refused("init ask Mail Spool r w\n", "smack: line 1: words", "and 4 stand there")
         self.assertEqual(self.caret(said), "w")
 
+    def test_one_word_too_many(self) -> None:
+        self.refused("init exit r\n", "smack: line 1: words", "exit takes 0 words, and 1 stands there: init exit")
+
+    def test_a_comment_behind_a_space(self) -> None:
+        self.refused(" # a policy\n", "smack: line 1: word 1", "a comment begins with the first letter of its line")
+
     def test_capability(self) -> None:
         parts = ("mac-admin, mac-override or sys-ptrace", "is it mac-override?")
         self.refused("init drop mac-overide\n", "smack: line 1: word 3", *parts)

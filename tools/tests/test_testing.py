@@ -80,6 +80,11 @@ class TestExpectations(FrontDoorTest):
     def test_an_expectation_is_shown_as_it_can_be_seen(self) -> None:
         self.assert_test("# expect \x1b[2J\ninit ask A A r\n", "1: `expect <1b>[2J`: no answer begins so", status=1)
 
+    def test_an_expectation_in_another_spelling_is_one(self) -> None:
+        text = "".join(f"{comment} deny\ninit ask A A r\n" for comment in ("# expect:", "# Expect", "#EXPECT ="))
+        why = "expected deny, got allow by case 5 (subject and object have the same label)"
+        self.assert_test(text, f"2: {why}", f"4: {why}", "5: `expect = deny`: no answer begins so", status=1)
+
     def test_comments_that_expect_nothing(self) -> None:
         self.assert_test("# expected of all\n# we expect deny\ninit ask A A r\n", status=0)
 
