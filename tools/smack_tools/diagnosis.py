@@ -110,7 +110,7 @@ def verb_reason(words: list[Word]) -> Found:
     near = nearest(verb, tables.VERBS)
     if looks_like_rule(" ".join(word.text for word in words)):
         return under(words[1], f"{readable(verb)} is no verb: the line looks like a rule")
-    hint = f": is it {near}?" if near else f"; the verbs are {' '.join(tables.VERBS)}"
+    hint = f": is it {near}?" if near else f"; the verbs are {' '.join(tables.BUILT_VERBS)}"
     return under(words[1], f"{readable(verb)} is no verb{hint}")
 
 

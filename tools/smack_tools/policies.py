@@ -109,11 +109,12 @@ def chunks_of(name: str, lines: list[str], bad: list[Bad]) -> Iterator[Chunk]:
 
 def files_of(path: str) -> list[str]:
     """The files that a path stands for: itself, or the files of a folder in the order of their names, without
-    those that begin with a dot or end with a tilde."""
+    those that begin with a dot or end with a tilde. A link that leads nowhere is one, and cannot be read."""
     if not os.path.isdir(path):
         return [path]
     names = sorted(name for name in os.listdir(path) if not name.startswith(".") and not name.endswith("~"))
-    return [os.path.join(path, name) for name in names if os.path.isfile(os.path.join(path, name))]
+    files = [os.path.join(path, name) for name in names]
+    return [file for file in files if os.path.isfile(file) or not os.path.exists(file)]
 
 
 def is_call(line: str) -> bool:

@@ -59,6 +59,9 @@ VERBS: dict[str, tuple[Kind, ...]] = {
     "shmrm": (kinds.KEY,),
 }
 
+# The verbs that the program has.
+BUILT_VERBS = tuple("write ask fork exit wait relabel drop kill take trace create unlink list".split())
+
 # The calls that ask with the label of a socket, which need not be that of the task.
 SOCKET_VERBS = {"send", "connect", "say", "inject"}
 

@@ -2,6 +2,7 @@
 
 import unittest
 
+from smack_tools import tables
 from smack_tools.diagnosis import diagnose
 from smack_tools.script import read_script
 from tests.front_door import Ended, FrontDoorTest
@@ -53,6 +54,14 @@ class TestBadLines(FrontDoorTest):
 
     def test_verb_with_a_slip(self) -> None:
         self.refused("init aks Mail Spool r\n", "smack: line 1: verb", "is it ask?")
+
+    def test_the_verbs_that_are_named_are_those_that_the_program_has(self) -> None:
+        said = self.refused("init frobnicate\n", "smack: line 1: verb", "the verbs are write ask ")
+        self.assertNotIn("mkdir", said.err)
+        for verb in tables.VERBS:
+            cause = "" if verb in ("exit", "take") else "words" if verb in tables.BUILT_VERBS else "not-built"
+            said = self.smack("replay", given=f"init {verb}\n".encode())
+            self.assertEqual(said.err, f"smack: line 1: {cause}\n" if cause else "")
 
     def test_number_of_words(self) -> None:
         parts = ("takes 3 words, and 2 stand there", "init ask LABEL LABEL MODES")

@@ -140,6 +140,13 @@ class TestBadLines(FrontDoorTest):
         self.assertEqual((said.status, said.out), (1, ""))
         self.assertIn(f"{questions}:1 to 2: a question is SUBJECT OBJECT MODES", said.err)
 
+    def test_a_link_that_leads_nowhere(self) -> None:
+        self.file("d/mail", "Mail Spool rw\n")
+        (self.folder / "d/guest").symlink_to("nowhere")
+        said = self.smack("policy", self.folder / "d")
+        self.assertEqual((said.status, said.out), (4, ""))
+        self.assertIn("cannot read", said.err)
+
     def test_a_path_that_is_not_there(self) -> None:
         said = self.smack("policy", self.folder / "none")
         self.assertEqual((said.status, said.out), (4, ""))
