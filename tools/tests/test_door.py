@@ -162,6 +162,26 @@ class TestFiles(FrontDoorTest):
         said = ended([second, "replay", EXAMPLES / "files.smack"])
         self.assertEqual((said.status, said.out), (0, (EXAMPLES / "files.record").read_text()))
 
+    def test_a_pipe_is_read_as_a_file_is(self) -> None:
+        said = ended(["sh", "-c", 'printf "init frob\\n" | "$0" replay /dev/stdin', SMACK])
+        self.assertEqual((said.status, said.out, said.err), (3, "", "smack: line 1: verb\n"))
+
+    def test_closed_output_is_a_write_fault(self) -> None:
+        said = ended(["sh", "-c", '"$0" replay "$1" >&-', SMACK, EXAMPLES / "first.smack"])
+        self.assertEqual((said.status, said.out, said.err), (5, "", "smack: write fault\n"))
+
+    def test_help_of_the_commands_of_the_program(self) -> None:
+        for command in ("replay", "run"):
+            said = self.smack(command, "--help")
+            self.assertEqual((said.status, said.err), (0, ""))
+            self.assertIn("smack replay [FILE]", said.out)
+
+    def test_a_name_that_begins_as_an_option_does(self) -> None:
+        script = self.file("-x", "init frob\n")
+        said = ended(["sh", "-c", 'cd "$1" && "$0" replay -x', SMACK, script.parent])
+        self.assertEqual((said.status, said.out), (3, ""))
+        self.assertTrue(said.err.startswith("smack: line 1: verb\n  1 | init frob\n"), said.err)
+
     def test_a_file_that_is_not_there(self) -> None:
         said = self.smack("replay", self.folder / "none.smack")
         self.assertEqual((said.status, said.out), (4, ""))
