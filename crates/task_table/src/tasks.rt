@@ -85,7 +85,7 @@ impl Tasks {
     pub fn fork(&mut self, parent: u16, pid: Pid) -> Result<u16, TaskFault>
         requires { parent < length self.old }
         ensures number { IfOk result (λ number. number ≡ length self.old) }
-        ensures ok { OnOk result (self.new ≡ with_child self.old pid (creds_or_first (creds_in self.old parent))) }
+        ensures ok { OnOk result ((was_made self.old pid ≡ false) × (self.new ≡ with_child self.old pid (creds_or_first (creds_in self.old parent)))) }
         ensures fault { IfErr result (IsForkFault self.old pid) }
         ensures err { OnErr result (self.new ≡ self.old) }
     {
