@@ -244,7 +244,7 @@ module _ {s : SeatValue Entry} {w : View Entry} {rules : IndexValue} {rows : ℕ
     calls_forked = turn_calls task task_forked calls table number (f.numbers ∙ seen_numbers) later (Task (Fork pid)) r
         (is_made.1 ∙ sym whole)
         (turn_enters task w x t s3.view entry r.place refl f.history f.journal
-        (λ q h. f.batches q (subst (Has q) (sym seen_numbers) h)) is_made.0.2 is_made.1 is_made.0.3 is_made.0.4)
+        (λ q h. f.batches q (subst (Has q) (sym seen_numbers) h)) is_made.0.0 is_made.0.2 is_made.1 is_made.0.3 is_made.0.4)
 
     -- the parent's credentials are as before
     creds_kept : creds' ≡ creds

@@ -113,17 +113,18 @@ module _ {s : SeatValue Entry} {rules : IndexValue} {rows : ℕ} {creds : Creds}
   pub turn_enters : (w' : View Entry) (e : Entry) (place : ℕ) → e.task ≡ s.number → w'.history ≡ w.history ++ e ∷ []
       → Begins w'.journal w.journal
       → ((k : ℕ) → Has k s.view.numbers → batches_by k w'.journal ≡ batches_by k w.journal)
-      → place ≡ length x.trail + 1 → e.version ≡ length w.journal
+      → length x.trail < most_entries → place ≡ length x.trail + 1 → e.version ≡ length w.journal
       → e.checks ≡ (step x.world (ruling w.journal) e.task e.call).checks
       → e.reply ≡ (step x.world (ruling w.journal) e.task e.call).reply
       → Enters s.number (rest_of s.view.numbers) s.view.journal w'.journal s.view.history w'.history e place
-  turn_enters w' e place own history more same at now checks reply =
+  turn_enters w' e place own history more same room at now checks reply =
       let number : Entry → ℕ = λ y. y.task in
       let one : entries_by world_means s.number (e ∷ []) ≡ e ∷ [] =
       those_all number s.number (e ∷ []) (λ y h. ap number (only_one h) ∙ own) in
       let grows = turn_grows (record w' { history = w.history }) refl more same in record {
         before = w.history;
         is = history;
+        room = let n = ap length t.is in omega arith;
         more = t.history;
         own_before = t.entries s.number mine;
         grows = record {
@@ -302,7 +303,7 @@ module _ {E : Type 0} {s s1 s3 : SeatValue Entry} {rules rules' : IndexValue} {r
           let ends : s3.view.history ≡ s1.view.history ++ entry ∷ [] =
           history ∙ ap (λ z. s1.view.history ++ entries_made s.number (made + 1) call z) is_q in
           turn_calls task task_turned made table number numbers later call e (m.1 ∙ sym all)
-          (turn_enters task s1.view x t s3.view entry e.place refl ends more no_batch m.0.2 m.1 m.0.3 m.0.4)
+          (turn_enters task s1.view x t s3.view entry e.place refl ends more no_batch m.0.0 m.0.2 m.1 m.0.3 m.0.4)
       by (Ok (turned.TrailFull back)) is_q =
           let m = subst (λ z. IfOk z (IsMade x m' (ruling s1.view.journal) s.number (made + 1) call)) is_q is_made in
           let empty = ap (entries_made s.number (made + 1) call) is_q in

@@ -14,6 +14,7 @@ use Rattle.live_table.specs.Lists.{Begins, Has}
 use Rattle.live_table.specs.Batches.{batches_by, rows_of}
 use Rattle.live_table.specs.Machines.{last_version, entries_by}
 use Rattle.live_table.specs.Core.{row_count}
+use Rattle.smack_world.specs.Stepping.{most_entries}
 use Rattle.smack_kernel.specs.Histories.{world_means}
 use Rattle.smack_kernel.specs.declared.publishing.Published.{Published}
 use Rattle.smack_kernel.specs.declared.publishing.Published.TheVariants as published
@@ -47,12 +48,14 @@ abbrev pub entry_of : ℕ → ℕ → Call → ℕ → List Verdict → Reply �
 entry_of task seq call version checks reply =
     record { task = task; seq = seq; call = call; version = version; checks = checks; reply = reply }
 
--- One entry more, which ends the history. It is the step of its call in the world that the entries before it leave, in
--- the version that the task looked at while it had the turn, which is not below that of the entry before.
+-- One entry more, which ends the history: there was room for it. It is the step of its call in the world that the
+-- entries before it leave, in the version that the task looked at while it had the turn, which is not below that of the
+-- entry before.
 pub record Enters (number : ℕ) (ended : List ℕ) (j j' : List Batch) (h h' : List Entry) (e : Entry) (place : ℕ)
     : Type 0 where
   pub before : List Entry
   pub is : h' ≡ before ++ e ∷ []
+  pub room : length before < most_entries
   pub more : Begins before h
   pub own_before : entries_by world_means number before ≡ entries_by world_means number h
   pub grows : Grows number ended j j' h h' [] (e ∷ [])
