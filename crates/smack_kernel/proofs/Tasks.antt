@@ -1,4 +1,4 @@
-use Rattle.std.proofs.Common.{◌≡◌, ℕ, ◌+◌, ◌<◌, ◌≤◌, true, false, if◌then◌else◌, List, [], ◌∷◌, ◌++◌, ⊎_elim, sym, refl, ap, ◌∙◌, subst, append-nil, arith}
+use Rattle.std.proofs.Common.{◌≡◌, ◌⊎◌, inl, inr, ℕ, ◌+◌, ◌<◌, ◌≤◌, true, false, if◌then◌else◌, List, [], ◌∷◌, ◌++◌, ⊎_elim, sym, refl, ap, ◌∙◌, subst, append-nil, arith}
 use Rattle.std.specs.Prelude.{Result, Ok, Err, OnErr, nat_lt}
 use Rattle.std.proofs.lemmas.Bool.Decides.{nat_tests}
 use Rattle.atomic_table.specs.Seated.{TableId}
@@ -160,6 +160,7 @@ pub record Newer (a b n : Index) (journal : List Batch) : Type 0 where
   pub stands : StandsAt n.rules n.rows journal
   pub later : a.rules.version ≤ n.rules.version
   pub told_later : b.rules.version ≤ n.rules.version
+  pub greater : (n.rules.version ≡ a.rules.version) ⊎ (n.rules.version ≡ b.rules.version)
 
 pub newer : (journal : List Batch) (a b n : Index) → n ≡ (if nat_lt a.rules.version b.rules.version then b else a)
     → StandsAt a.rules a.rows journal → StandsAt b.rules b.rows journal → Newer a b n journal
@@ -169,11 +170,13 @@ newer journal a b n is s t = (elim (nat_lt a.rules.version b.rules.version) as
         stands = t;
         later = let l : a.rules.version < b.rules.version = grind (arith, nat_tests) in omega arith;
         told_later = omega arith;
+        greater = inr refl;
       }
       | false ↦ λ e i. subst (λ z. Newer a b z journal) (sym i) record {
         stands = s;
         later = omega arith;
         told_later = let l : b.rules.version ≤ a.rules.version = grind (arith, nat_tests) in omega arith;
+        greater = inl refl;
       }
     ]) refl is
 
@@ -182,8 +185,9 @@ pub adopts_does : {s c s' : SeatValue Entry} {rules rules_c rules' : IndexValue}
     {creds creds_c : Creds} (made made_c : ℕ) → IsTask s rules rows creds → IsTask c rules_c rows_c creds_c
     → (s'.table ≡ s.table) × (s'.number ≡ s.number) → HearsView world_means s.view c.view s'.view
     → StandsAt rules' rows' s'.view.journal → rules.version ≤ rules'.version → rules_c.version ≤ rules'.version
+    → (rules'.version ≡ rules.version) ⊎ (rules'.version ≡ rules_c.version)
     → Adopts (task_of s rules made creds) (task_of c rules_c made_c creds_c) (task_of s' rules' made creds)
-adopts_does {s} {c} {s'} made made_c t d same hears stands later told_later =
+adopts_does {s} {c} {s'} made made_c t d same hears stands later told_later greater =
     let named : s'.view.numbers ≡ s.number ∷ (rest_of s.view.numbers ++ c.number ∷ rest_of c.view.numbers) =
     hears.numbers ∙ (λ i. t.numbered i ++ d.numbered i) in
     let mine : (k : ℕ) → Has k (s.number ∷ rest_of s.view.numbers) → Has k s.view.numbers =
@@ -206,6 +210,7 @@ adopts_does {s} {c} {s'} made made_c t d same hears stands later told_later =
       told_entries = λ k h. hears.told_entries k (theirs k h);
       version = later;
       told_version = told_later;
+      greater = greater;
       within = stands_within stands;
     }
 

@@ -1,4 +1,4 @@
-use Rattle.std.specs.Prelude.{◌≡◌, ℕ, ◌+◌, ◌<◌, ◌≤◌, ◌++◌, ◌∷◌, [], List, length}
+use Rattle.std.specs.Prelude.{◌≡◌, ◌⊎◌, ℕ, ◌+◌, ◌<◌, ◌≤◌, ◌++◌, ◌∷◌, [], List, length}
 use Rattle.atomic_table.specs.Seated.{TableId}
 use Rattle.rules_spec.specs.declared.Batch.{Batch}
 use Rattle.rules_spec.specs.Creds.{Creds, creds_first}
@@ -157,7 +157,7 @@ pub record Hears (v : TaskValue) (n : ToldValue) (w : TaskValue) : Type 0 where
   pub told_history : Begins w.history n.history
 
 -- A task that adopted another has seen what both had. The numbers of the other are ended numbers of it, and each number
--- has the batches and entries that it had; its index has the greater version.
+-- has the batches and entries that it had; its index has the greater version of the two.
 pub record Adopts (v c w : TaskValue) : Type 0 where
   pub table : w.table ≡ v.table
   pub number : w.number ≡ v.number
@@ -177,6 +177,7 @@ pub record Adopts (v c w : TaskValue) : Type 0 where
       → entries_by world_means k w.history ≡ entries_by world_means k c.history
   pub version : v.version ≤ w.version
   pub told_version : c.version ≤ w.version
+  pub greater : (w.version ≡ v.version) ⊎ (w.version ≡ c.version)
   pub within : w.version ≤ length w.journal
 
 -- In one call no more rows are loaded than those that the task has seen after it and its index had not taken before it.

@@ -21,4 +21,4 @@ returns-clause-adopts c =
     let n = newer c.adopt.new.seat.view.journal c.task.inside.index c.child.inside.index c.keep_newer.new.self
     c.keep_newer.ensures (stands_longer heard.journal t.stands) (stands_longer heard.told_journal d.stands) in
     rw (← c.task.view_is, ← c.child.view_is)
-    (adopts_does c.task.inside.made c.child.inside.made t d c.adopt.ensures.same heard n.stands n.later n.told_later)
+    (adopts_does c.task.inside.made c.child.inside.made t d c.adopt.ensures.same heard n.stands n.later n.told_later n.greater)
