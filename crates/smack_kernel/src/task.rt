@@ -1,4 +1,4 @@
-ghost use Rattle.std.specs.Prelude.{◌≡◌, ◌≤◌};
+ghost use Rattle.std.specs.Prelude.{◌≡◌, ◌≤◌, length};
 ghost use Rattle.smack_kernel.specs.Tasks.{most_calls, IsSound};
 
 use crate::index::Index;
@@ -45,9 +45,10 @@ impl Task {
         self.seat.number()
     }
 
-    /// The version that the task's rules stand for.
+    /// The version that the task's rules stand for: one of the journal that the task has seen.
     pub fn version(&self) -> u32
-        ensures { result ≡ self.now.version }
+        ensures version { result ≡ self.now.version }
+        ensures within { result ≤ length self.now.journal }
     {
         self.index.rules.version()
     }
