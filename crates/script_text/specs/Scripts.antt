@@ -10,7 +10,7 @@ use Rattle.script_spec.specs.declared.ScriptFault.TheVariants.{Malformed, TooLar
 use Rattle.script_spec.specs.Lines.{ScriptLine, rows_of, rows_in, labels_of, table_of}
 use Rattle.script_spec.specs.Tasks.{Tasks, tasks_of, change_of, forked_name}
 use Rattle.script_spec.specs.Causes.{line_cause}
-use Rattle.script_spec.specs.Grammar.{Item, text_count, call_in, call_of, item_fault, script_of, has_text, first_of, tasks_fault, text_fault, rows_fault, labels_fault, most_bytes, most_lines, most_rows, most_labels}
+use Rattle.script_spec.specs.Grammar.{Item, text_count, call_in, call_of, item_fault, script_of, parse, has_text, first_of, tasks_fault, text_fault, rows_fault, labels_fault, most_bytes, most_lines, most_rows, most_labels}
 use Rattle.script_text.specs.declared.reading.Draft.{Draft}
 use Rattle.script_text.specs.declared.reading.Place.{Place}
 use Rattle.script_text.specs.declared.reading.Found.{Found}
@@ -30,6 +30,10 @@ Fails (TooLarge what) read = read ≡ Err (TooLarge what)
 abbrev pub Reads : Result (List ScriptLine) ScriptFault → Result (List ScriptLine) ScriptFault → Type 0
 Reads (Ok lines) read = read ≡ Ok lines
 Reads (Err e) read = Fails e read
+
+-- the calls are those of some bytes that are a script
+abbrev pub AreRead : List ScriptLine → Type 0
+AreRead lines = (bytes : List ℕ) × (parse bytes ≡ Ok lines)
 
 -- the calls of a draft
 abbrev pub calls_seen : Draft → List ScriptLine

@@ -3,7 +3,7 @@ ghost use Rattle.script_spec.specs.Grammar.{parse, most_lines, most_tasks};
 ghost use Rattle.script_spec.specs.Lines.{table_of};
 ghost use Rattle.script_spec.specs.Tasks.{task_names};
 ghost use Rattle.script_text.specs.Lines.{call_seen};
-ghost use Rattle.script_text.specs.Scripts.{Reads};
+ghost use Rattle.script_text.specs.Scripts.{AreRead, Reads};
 ghost use Rattle.script_text.specs.TaskTables.{names_in};
 
 use crate::line::Line;
@@ -69,9 +69,10 @@ impl<'a> Script<'a> {
         }
     }
 
-    /// The calls, in written order.
+    /// The calls, in written order. They were read from bytes, as those of every script.
     pub fn lines(&self) -> &[Line<'a>]
         ensures calls { map call_seen result.now ≡ self.now }
+        ensures read { AreRead self.now }
         ensures few { length result.now ≤ most_lines }
     {
         self.lines.as_slice()
@@ -89,6 +90,7 @@ impl<'a> Script<'a> {
     /// give; takes no memory.
     pub fn into_parts(self) -> (Vec<Line<'a>>, Vec<Part<'a>>, Labels)
         ensures calls { map call_seen result.0.items ≡ self.entry }
+        ensures read { AreRead self.entry }
         ensures few { length result.0.items ≤ most_lines }
         ensures names { names_in result.1.items ≡ task_names self.entry }
         ensures few_names { length result.1.items ≤ most_tasks }
@@ -105,7 +107,8 @@ impl<'a> Script<'a> {
     /// The label table of the script: the predefined labels, and then its own in the order in
     /// which they stand, each once.
     pub fn labels(&self) -> Result<Labels, AllocError>
-        ensures { IfOk result (λ labels. labels ≡ table_of self.now) }
+        ensures table { IfOk result (λ labels. labels ≡ table_of self.now) }
+        ensures read { AreRead self.now }
     {
         self.labels.copy()
     }
