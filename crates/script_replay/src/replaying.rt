@@ -1,7 +1,8 @@
-ghost use Rattle.std.specs.Prelude.{◌≡◌, ◌≤◌, ℕ, List, ◌∷◌, ◌++◌, [], Ok, length, map, IfOk};
-ghost use Rattle.script_spec.specs.Grammar.{most_lines, most_tasks, parse};
+ghost use Rattle.std.specs.Prelude.{◌≡◌, ◌≤◌, ◌∷◌, ◌++◌, [], length, map, IfOk};
+ghost use Rattle.script_spec.specs.Grammar.{most_lines, most_tasks};
 ghost use Rattle.script_spec.specs.Tasks.{task_names};
 ghost use Rattle.script_text.specs.Lines.{call_seen};
+ghost use Rattle.script_text.specs.Scripts.{AreRead};
 ghost use Rattle.legal_spec.specs.Fits.{IsLegalFor};
 ghost use Rattle.replay_spec.specs.Plain.{IsPlain};
 ghost use Rattle.replay_spec.specs.Replays.{run_of, replayed};
@@ -74,7 +75,8 @@ fn report_of(
 
 /// The record that all calls of a script leave.
 fn record_of(alloc: Global, script: Script<'_>) -> Result<RunRecord, AllocError>
-    ensures { IfOk result (λ r. r ≡ replayed script.entry) }
+    ensures replayed { IfOk result (λ r. r ≡ replayed script.entry) }
+    ensures read { AreRead script.entry }
 {
     let (lines, tasks, labels) = script.into_parts();
     let names = names_of(alloc, tasks.as_slice())?;
@@ -84,7 +86,8 @@ fn record_of(alloc: Global, script: Script<'_>) -> Result<RunRecord, AllocError>
 
 /// The same, from a copy of its calls.
 fn record_of_copy(alloc: Global, script: &Script<'_>) -> Result<RunRecord, AllocError>
-    ensures { IfOk result (λ r. r ≡ replayed script.now) }
+    ensures replayed { IfOk result (λ r. r ≡ replayed script.now) }
+    ensures read { AreRead script.now }
 {
     let lines = Vec::from_slice(alloc, script.lines())?;
     let labels = script.labels()?;
@@ -94,24 +97,23 @@ fn record_of_copy(alloc: Global, script: &Script<'_>) -> Result<RunRecord, Alloc
 }
 
 /// The record of a script that is replayed: its calls are taken in written order, each judged at
-/// the newest version. Where the script was read from bytes, the record is plain, and legal for the
-/// script.
-#[tactic(auto, using(crate::proofs::PlainRecords::replayed_are_plain, crate::proofs::LegalRecords::replayed_are_legal))]
+/// the newest version. The record is plain, and legal for the script.
+#[tactic(auto, using(crate::proofs::LegalRecords::replayed_are_legal))]
 pub fn replay(alloc: Global, script: &Script<'_>) -> Result<RunRecord, AllocError>
     ensures replayed { IfOk result (λ r. r ≡ replayed script.now) }
-    ensures plain { IfOk result (λ r. (bytes : List ℕ) → parse bytes ≡ Ok script.now → IsPlain r) }
-    ensures legal { IfOk result (λ r. (bytes : List ℕ) → parse bytes ≡ Ok script.now → IsLegalFor script.now r) }
+    ensures plain { IfOk result (λ r. IsPlain r) }
+    ensures legal { IfOk result (λ r. IsLegalFor script.now r) }
 {
     record_of_copy(alloc, script)
 }
 
 /// The same of a script that nobody needs afterwards: the memory of its calls goes back while they
 /// run.
-#[tactic(auto, using(crate::proofs::PlainRecords::replayed_are_plain, crate::proofs::LegalRecords::replayed_are_legal))]
+#[tactic(auto, using(crate::proofs::LegalRecords::replayed_are_legal))]
 pub fn into_record(alloc: Global, script: Script<'_>) -> Result<RunRecord, AllocError>
     ensures replayed { IfOk result (λ r. r ≡ replayed script.entry) }
-    ensures plain { IfOk result (λ r. (bytes : List ℕ) → parse bytes ≡ Ok script.entry → IsPlain r) }
-    ensures legal { IfOk result (λ r. (bytes : List ℕ) → parse bytes ≡ Ok script.entry → IsLegalFor script.entry r) }
+    ensures plain { IfOk result (λ r. IsPlain r) }
+    ensures legal { IfOk result (λ r. IsLegalFor script.entry r) }
 {
     record_of(alloc, script)
 }
