@@ -15,4 +15,5 @@ pub mod Waits
 pub mod Listed
 pub mod Fitting
 pub mod RefusedRecords
+pub mod UnfitRecords
 pub mod Interleaved

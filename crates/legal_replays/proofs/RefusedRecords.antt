@@ -1,19 +1,27 @@
-use Rattle.std.proofs.Common.{◌≡◌, ℕ, zero, suc, Bool, true, false, inl, inr, [], ◌∷◌, refl, sym, ap, subst, ◌∙◌, arith}
+use Rattle.std.proofs.Common.{◌≡◌, ℕ, zero, suc, Bool, true, false, inl, inr, List, [], ◌∷◌, codes, refl, sym, ap, subst, ◌∙◌, arith}
 use Rattle.rules_spec.specs.declared.Verdict.{Verdict}
+use Rattle.smack_base.specs.declared.ids.Pid.{Pid}
 use Rattle.smack_base.specs.declared.rule_op.RuleOp.TheVariants.{Set, Revoke}
 use Rattle.rules_spec.specs.AskedModes.{read}
+use Rattle.file_spec.specs.declared.Refusal.TheVariants.{NotPrivileged, JournalFull}
 use Rattle.world_spec.specs.declared.Call.{Call}
 use Rattle.world_spec.specs.declared.Call.TheVariants.{Task}
 use Rattle.world_spec.specs.declared.TaskCall.TheVariants.{Fork, Exit, Take}
+use Rattle.world_spec.specs.declared.Reply.{Reply}
 use Rattle.world_spec.specs.declared.Reply.TheVariants.{Ok as Done, Child, Refused as RefusedBy}
 use Rattle.world_spec.specs.declared.Why.TheVariants.{NoSuchTask, Again}
 use Rattle.world_spec.specs.declared.Entry.{Entry}
-use Rattle.record_spec.specs.declared.AskedWhat.TheVariants.{Ask, Wait}
-use Rattle.legal_spec.specs.Calls.{Stands, IsForkOf, IsNumberOf, IsBefore, batch, asked, Descends, itself, call_count}
+use Rattle.world_spec.specs.Steps.{verdict_by_creds}
+use Rattle.record_spec.specs.declared.AskedWhat.TheVariants.{Ask, Refused, Wait}
+use Rattle.legal_spec.specs.Calls.{Stands, IsForkOf, IsNumberOf, IsBefore, batch, asked, Descends, itself, child as child_of}
 use Rattle.legal_spec.specs.Legal.{IsLegal}
-use Rattle.legal_spec.specs.Fits.{IsRecorded, batch as batch_of, entry as entry_of, asked as asked_of, FitsScript}
-use Rattle.legal_replays.specs.RefusedRecords.{a_label, c_label, b_pid, published, entered, asked_in, by_rule, without_rule, stale_ask, wrong_answer, stale_child, early_wait, early_entry, early_child, swapped_batches, unprivileged_batch, falling_version, swapped_lines, unknown_task, missing_number, take_line, line_left_out, line_twice, other_call, RefusedRecords}
+use Rattle.legal_replays.specs.RefusedRecords.{a_label, c_label, b_pid, c_pid, published, entered, asked_in, by_rule, without_rule, stale_ask, wrong_answer, stale_child, early_wait, early_entry, early_child, swapped_batches, unprivileged_batch, falling_version, swapped_lines, unknown_task, missing_number, wrong_reply, wrong_check, missing_check, entry_beyond, ask_beyond, privileged_refusal, own_file_refusal, wrong_rows, wait_below_grandchild, RefusedRecords}
 use Rattle.legal_replays.proofs.Places.{same_some}
+
+-- the case of the first check; 0 where there is none
+abbrev case_of_first : List Verdict → ℕ
+case_of_first [] = 0
+case_of_first (v ∷ vs) = v.case
 
 same_child : (a b : ℕ) → Child a ≡ Child b → a ≡ b
 same_child a b is = cc
@@ -109,30 +117,58 @@ task legal = by (legal.calls.of_tasks 1 1 0 0 (asked 0 (asked_in 1 1 0 (Ask with
 number : IsLegal missing_number → ⊥
 number legal = let wrong : ◌≡◌ {A = ℕ} 0 1 = legal.calls.once 0 1 in omega (arith, wrong)
 
-left_out : FitsScript (take_line ∷ []) line_left_out → ⊥
-left_out fits = let wrong : ◌≡◌ {A = ℕ} 0 1 = (fits.tasks (record { 0 = 0 }) (omega arith)).many in omega (arith, wrong)
+reply : IsLegal wrong_reply → ⊥
+reply legal = let wrong : ◌≡◌ {A = Reply} Done (RefusedBy Again) = legal.entries.steps.1 in cc
 
-twice : FitsScript (take_line ∷ []) line_twice → ⊥
-twice fits =
-    let own = fits.tasks (record { 0 = 0 }) (omega arith) in
-    let first : 0 ≡ own.number = own.one 0 (inl (refl, refl)) in
-    let wrong : ◌≡◌ {A = ℕ} 2 1 = ap (call_count line_twice) first ∙ own.many in
+check : IsLegal wrong_check → ⊥
+unfolding verdict_by_creds
+check legal =
+    let wrong : ◌≡◌ {A = ℕ} 5 3 = ap case_of_first legal.entries.steps.0 in omega (arith, wrong)
+
+no_check : IsLegal missing_check → ⊥
+unfolding verdict_by_creds
+no_check legal = let wrong : ◌≡◌ {A = ℕ} 0 3 = ap case_of_first legal.entries.steps.0 in omega (arith, wrong)
+
+entry_within : IsLegal entry_beyond → ⊥
+entry_within legal = omega (arith, legal.entries.within 0 (entered 0 1 1 Take (RefusedBy Again)) refl)
+
+ask_within : IsLegal ask_beyond → ⊥
+ask_within legal = omega (arith, (legal.asked 0 (asked_in 0 1 1 (Ask without_rule)) refl).0)
+
+effective : IsLegal privileged_refusal → ⊥
+effective legal =
+    let wrong : ◌≡◌ {A = Bool} true false = (legal.asked 0 (asked_in 0 1 0 (Refused (codes "load2") NotPrivileged)) refl).1.1 in cc
+
+own_file : IsLegal own_file_refusal → ⊥
+own_file legal =
+    let wrong : ◌≡◌ {A = Bool} false true = (legal.asked 0 (asked_in 0 2 0 (Refused (codes "load-self2") NotPrivileged)) refl).1.0 in cc
+
+rows : IsLegal wrong_rows → ⊥
+rows legal =
+    let wrong : ◌≡◌ {A = ℕ} 1048576 0 = (legal.asked 0 (asked_in 0 1 0 (Refused (codes "load2") (JournalFull 1048576))) refl).1.1 in
     omega (arith, wrong)
 
-other_line : (number : ℕ) → IsRecorded other_call number take_line → ⊥
-other_line number (batch_of i b at own seq line) = cc
-other_line number (entry_of zero e at own seq line) =
-    let call : Task Exit ≡ e.call = ap (λ (x : Entry). x.call) (same_some _ e at) in
-    let line_is : Task Take ≡ e.call = same_some (Task Take) e.call line in
-    let wrong : Task Take ≡ Task Exit = line_is ∙ sym call in
-    cc
-other_line number (entry_of (suc i) e at own seq line) = cc
-other_line number (asked_of i a at own seq line) = cc
+same_pid : (a b : Pid) → ◌≡◌ {A = Call} (Task (Fork a)) (Task (Fork b)) → a ≡ b
+same_pid a b is = cc
 
-other : FitsScript (take_line ∷ []) other_call → ⊥
-other fits =
-    let own = fits.tasks (record { 0 = 0 }) (omega arith) in
-    other_line own.number (own.recorded 0 take_line refl refl)
+other_fork : ◌≡◌ {A = Call} (Task (Fork c_pid)) (Task (Fork b_pid)) → ⊥
+other_fork is = let wrong : ◌≡◌ {A = ℕ} 2 1 = ap (λ (pid : Pid). pid.0) (same_pid c_pid b_pid is) in omega (arith, wrong)
+
+grandchild_number : (place number : ℕ) (fork : Entry) → Stands wait_below_grandchild.history place fork → IsForkOf fork number b_pid → number ≡ 1
+grandchild_number zero number fork at is = same_child number 1 (sym is.1 ∙ sym (ap (λ (e : Entry). e.reply) (same_some _ fork at)))
+grandchild_number (suc zero) number fork at is =
+    absurd (no_fork fork.call (Task (Fork c_pid)) is.0 (sym (ap (λ (e : Entry). e.call) (same_some _ fork at))) other_fork)
+grandchild_number (suc (suc n)) number fork at is = cc
+
+descendant : IsLegal wait_below_grandchild → ⊥
+descendant legal =
+    let w = legal.fresh.waited 0 (asked_in 0 2 0 (Wait b_pid)) b_pid refl refl in
+    let number = grandchild_number w.place w.number w.fork w.there w.is in
+    let down : Descends wait_below_grandchild.history w.number 1 =
+    subst (λ (k : ℕ). Descends wait_below_grandchild.history k 1) (sym number) itself in
+    let lower : Descends wait_below_grandchild.history w.number 2 =
+    child_of 1 (entered 1 1 0 (Fork c_pid) (Child 2)) 2 c_pid down refl (refl, refl) in
+    omega (arith, w.told 2 1 0 1 lower (batch 0 (published 2 1 (Set a_label c_label read)) refl))
 
 pub refused : RefusedRecords
 refused = record {
@@ -148,7 +184,13 @@ refused = record {
   lines = lines;
   task = task;
   number = number;
-  left_out = left_out;
-  twice = twice;
-  other = other;
+  reply = reply;
+  check = check;
+  no_check = no_check;
+  entry_within = entry_within;
+  ask_within = ask_within;
+  effective = effective;
+  own_file = own_file;
+  rows = rows;
+  descendant = descendant;
 }

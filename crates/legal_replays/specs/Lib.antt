@@ -1,2 +1,3 @@
 pub mod RefusedRecords
+pub mod UnfitRecords
 pub mod Interleaved

@@ -6,22 +6,23 @@ use Rattle.smack_base.specs.declared.rule_op.RuleOp.{RuleOp}
 use Rattle.smack_base.specs.declared.rule_op.RuleOp.TheVariants.{Set, Revoke}
 use Rattle.text_spec.specs.Names.{predefined}
 use Rattle.rules_spec.specs.AskedModes.{read}
+use Rattle.rules_spec.specs.Versions.{floor}
 use Rattle.rules_spec.specs.declared.Batch.{Batch}
 use Rattle.rules_spec.specs.declared.Verdict.{Verdict}
-use Rattle.script_spec.specs.Lines.{ScriptLine}
-use Rattle.world_spec.specs.declared.Call.TheVariants.{Task}
+use Rattle.file_spec.specs.declared.Refusal.TheVariants.{NotPrivileged, JournalFull}
+use Rattle.world_spec.specs.declared.Call.TheVariants.{Task, Tree}
 use Rattle.world_spec.specs.declared.TaskCall.{TaskCall}
 use Rattle.world_spec.specs.declared.TaskCall.TheVariants.{Fork, Exit, DropCap, Take}
+use Rattle.world_spec.specs.declared.TreeCall.TheVariants.{ListDir}
 use Rattle.world_spec.specs.declared.Reply.{Reply}
-use Rattle.world_spec.specs.declared.Reply.TheVariants.{Ok as Done, Child, Refused as RefusedBy}
+use Rattle.world_spec.specs.declared.Reply.TheVariants.{Ok as Done, Child, Names, Refused as RefusedBy}
 use Rattle.world_spec.specs.declared.Why.TheVariants.{NoSuchTask, Again}
 use Rattle.world_spec.specs.declared.Entry.{Entry}
 use Rattle.record_spec.specs.declared.AskedLine.{AskedLine}
 use Rattle.record_spec.specs.declared.AskedWhat.{AskedWhat}
-use Rattle.record_spec.specs.declared.AskedWhat.TheVariants.{Ask, Wait}
+use Rattle.record_spec.specs.declared.AskedWhat.TheVariants.{Ask, Refused, Wait}
 use Rattle.record_spec.specs.declared.RunRecord.{RunRecord}
 use Rattle.legal_spec.specs.Legal.{IsLegal}
-use Rattle.legal_spec.specs.Fits.{FitsScript}
 
 -- two labels that the table has behind the predefined ones
 abbrev pub a_label : LabelId
@@ -30,9 +31,12 @@ a_label = record { 0 = 5 }
 abbrev pub c_label : LabelId
 c_label = record { 0 = 6 }
 
--- a child
+-- a child, and a child of the child
 abbrev pub b_pid : Pid
 b_pid = record { 0 = 1 }
+
+abbrev pub c_pid : Pid
+c_pid = record { 0 = 2 }
 
 -- a record of two tasks and two labels
 abbrev pub record_of : List Batch → List Entry → List AskedLine → RunRecord
@@ -119,34 +123,53 @@ unknown_task = record_of [] [] (asked_in 1 1 0 (Ask without_rule) ∷ [])
 abbrev pub missing_number : RunRecord
 missing_number = record_of [] (entered 0 2 0 Take (RefusedBy Again) ∷ []) []
 
--- one line: init take
-abbrev pub take_line : ScriptLine
-take_line = record {
+-- an object call with another reply than its step gives: no signal waits
+abbrev pub wrong_reply : RunRecord
+wrong_reply = record_of [] (entered 0 1 0 Take Done ∷ []) []
+
+-- the first task lists the root with these checks
+abbrev pub listed_with : List Verdict → RunRecord
+listed_with checks = record_of [] (record {
   task = 0;
   seq = 1;
-  line = 1;
-  words = record { at = 5; bytes = codes "take" } ∷ [];
-  text = record { at = 10; bytes = [] };
-}
+  call = Tree (ListDir [] 0);
+  version = 0;
+  checks = checks;
+  reply = Names 0 [];
+} ∷ []) []
 
-abbrev pub one_task : List Entry → RunRecord
-one_task history = record {
-  labels = predefined;
-  names = codes "init" ∷ [];
-  journal = [];
-  history = history;
-  asked = [];
-}
+-- an object call with another check than its step makes, which is case 3, and one without it
+abbrev pub wrong_check : RunRecord
+wrong_check = listed_with (record { allowed = true; case = 5; over = 0; subject = floor; object = floor; modes = read } ∷ [])
 
--- a record without the line, one that has it twice, and one that has another call in its place
-abbrev pub line_left_out : RunRecord
-line_left_out = one_task []
+abbrev pub missing_check : RunRecord
+missing_check = listed_with []
 
-abbrev pub line_twice : RunRecord
-line_twice = one_task (entered 0 1 0 Take (RefusedBy Again) ∷ entered 0 2 0 Take (RefusedBy Again) ∷ [])
+-- an object call in a version that the journal lacks
+abbrev pub entry_beyond : RunRecord
+entry_beyond = record_of [] (entered 0 1 1 Take (RefusedBy Again) ∷ []) []
 
-abbrev pub other_call : RunRecord
-other_call = one_task (entered 0 1 0 Exit Done ∷ [])
+-- an ask in a version that the journal lacks
+abbrev pub ask_beyond : RunRecord
+ask_beyond = record_of [] [] (asked_in 0 1 1 (Ask without_rule) ∷ [])
+
+-- a write that is refused for want of the privilege that its task has
+abbrev pub privileged_refusal : RunRecord
+privileged_refusal = record_of [] [] (asked_in 0 1 0 (Refused (codes "load2") NotPrivileged) ∷ [])
+
+-- a write of self rules, which wants no privilege, that is refused for want of it
+abbrev pub own_file_refusal : RunRecord
+own_file_refusal = record_of [] (entered 0 1 0 (DropCap MacAdmin) Done ∷ [])
+    (asked_in 0 2 0 (Refused (codes "load-self2") NotPrivileged) ∷ [])
+
+-- a write that is refused for want of room beside more rows than the journal has
+abbrev pub wrong_rows : RunRecord
+wrong_rows = record_of [] [] (asked_in 0 1 0 (Refused (codes "load2") (JournalFull 1048576)) ∷ [])
+
+-- a wait in a version older than the one that the child's child reached by its batch
+abbrev pub wait_below_grandchild : RunRecord
+wait_below_grandchild = record_of (published 2 1 (Set a_label c_label read) ∷ [])
+    (entered 0 1 0 (Fork b_pid) (Child 1) ∷ entered 1 1 0 (Fork c_pid) (Child 2) ∷ []) (asked_in 0 2 0 (Wait b_pid) ∷ [])
 
 -- What the definitions refuse.
 pub record RefusedRecords : Type 0 where
@@ -162,6 +185,12 @@ pub record RefusedRecords : Type 0 where
   pub lines : IsLegal swapped_lines → ⊥
   pub task : IsLegal unknown_task → ⊥
   pub number : IsLegal missing_number → ⊥
-  pub left_out : FitsScript (take_line ∷ []) line_left_out → ⊥
-  pub twice : FitsScript (take_line ∷ []) line_twice → ⊥
-  pub other : FitsScript (take_line ∷ []) other_call → ⊥
+  pub reply : IsLegal wrong_reply → ⊥
+  pub check : IsLegal wrong_check → ⊥
+  pub no_check : IsLegal missing_check → ⊥
+  pub entry_within : IsLegal entry_beyond → ⊥
+  pub ask_within : IsLegal ask_beyond → ⊥
+  pub effective : IsLegal privileged_refusal → ⊥
+  pub own_file : IsLegal own_file_refusal → ⊥
+  pub rows : IsLegal wrong_rows → ⊥
+  pub descendant : IsLegal wait_below_grandchild → ⊥

@@ -6,6 +6,7 @@
 
 ghost use Rattle.legal_replays.specs.Interleaved.{OtherOrder};
 ghost use Rattle.legal_replays.specs.RefusedRecords.{RefusedRecords};
+ghost use Rattle.legal_replays.specs.UnfitRecords.{UnfitRecords};
 ghost use Rattle.legal_spec.specs.Laws.{ReplayedIsLegal};
 
 /// The law: the record of a script that is replayed is legal for the script.
@@ -13,9 +14,14 @@ pub fn replayed_records_are_legal()
     ensures { ReplayedIsLegal }
 {}
 
-/// Records that are not legal, and records that do not fit a script.
+/// Records that are not legal.
 pub fn records_that_are_refused()
     ensures { RefusedRecords }
+{}
+
+/// Records that do not fit a script.
+pub fn records_that_do_not_fit()
+    ensures { UnfitRecords }
 {}
 
 /// A record in another order than the replay's that is legal for its script.
