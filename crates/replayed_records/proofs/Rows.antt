@@ -14,6 +14,7 @@ worked_scripts = record {
   floor = refl;
   letters = refl;
   bad_line = refl;
+  bounds = refl;
   changes = refl;
   onlycap = refl;
   calls = refl;

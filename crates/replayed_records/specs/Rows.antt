@@ -1,4 +1,4 @@
-use Rattle.std.specs.Prelude.{◌≡◌, ℕ, List, [], ◌∷◌, ◌++◌, Ok, Err, Result, codes}
+use Rattle.std.specs.Prelude.{◌≡◌, ℕ, List, [], ◌∷◌, ◌++◌, Ok, Err, Result, codes, replicate}
 use Rattle.std.specs.List.{flat_map}
 use Rattle.script_spec.specs.declared.ScriptFault.{ScriptFault}
 use Rattle.script_spec.specs.Lines.{ScriptLine}
@@ -152,6 +152,38 @@ record_bad_line =
     ∷ codes "q 0.1 v0 write load2"
     ∷ codes "= bad-line 3 allow 0"
     ∷ codes "end 0 0 1"
+    ∷ []
+
+-- subjects at the bounds of their lengths, and lines of fixed width
+abbrev pub script_bounds : List (List ℕ)
+script_bounds =
+    codes "init write load2 1"
+    ∷ (replicate 255 65 ++ codes " B r")
+    ∷ codes "init write load2 1"
+    ∷ (replicate 256 65 ++ codes " B r")
+    ∷ codes "init write load 1"
+    ∷ codes " CCCCCCCCCCCCCCCCCCCCCCCB                       r    "
+    ∷ codes "init write load 1"
+    ∷ codes "CCCCCCCCCCCCCCCCCCCCCCCCB                       r    "
+    ∷ codes "init write load 1"
+    ∷ codes "C                       B                       r   "
+    ∷ []
+
+abbrev pub record_bounds : List (List ℕ)
+record_bounds =
+    codes "smack 1"
+    ∷ codes "task 0 init"
+    ∷ codes "j 1 0.1 1"
+    ∷ (codes "o set " ++ replicate 255 65 ++ codes " B r")
+    ∷ codes "j 2 0.3 1"
+    ∷ codes "o set CCCCCCCCCCCCCCCCCCCCCCC B r"
+    ∷ codes "q 0.2 v1 write load2"
+    ∷ codes "= bad-line 1 subject too-long"
+    ∷ codes "q 0.4 v2 write load"
+    ∷ codes "= bad-line 1 subject too-long"
+    ∷ codes "q 0.5 v2 write load"
+    ∷ codes "= bad-line 1 width 52"
+    ∷ codes "end 2 0 3"
     ∷ []
 
 -- rules that change and rules that are revoked
@@ -493,6 +525,7 @@ pub record WorkedScripts : Type 0 where
   pub floor : Prints script_floor record_floor
   pub letters : Prints script_letters record_letters
   pub bad_line : Prints script_bad_line record_bad_line
+  pub bounds : Prints script_bounds record_bounds
   pub changes : Prints script_changes record_changes
   pub onlycap : Prints script_onlycap record_onlycap
   pub calls : Prints script_calls record_calls
