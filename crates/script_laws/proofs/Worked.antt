@@ -37,6 +37,7 @@ scripts = record {
   zero_in_front = refl;
   number_2_to_32 = refl;
   text_ends_early = refl;
+  long_name = refl;
   long_file = refl;
 }
 
@@ -48,6 +49,7 @@ good_scripts = record {
   third_words = refl;
   pids = refl;
   names = refl;
+  longest_name = refl;
   longest_file = refl;
   most_tasks = refl;
   too_many_tasks = refl;

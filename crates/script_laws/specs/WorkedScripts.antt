@@ -49,6 +49,7 @@ pub record WorkedScripts : Type 0 where
   pub zero_in_front : IsBad (codes "init write load2 01\nA B r\n") 1 (Word 4)
   pub number_2_to_32 : IsBad (codes "init write load2 4294967296\n") 1 (Word 4)
   pub text_ends_early : IsBad (codes "init write load2 2\nA B r") 1 Text
+  pub long_name : IsBad (codes "init fork abcdefghijklmnopq") 1 (Word 3)
   pub long_file : IsBad (codes "init write abcdefghijklmnopqrstuvwxyz0123456 0") 1 (Word 3)
 
 -- the calls of a script; none where it is bad
@@ -86,6 +87,7 @@ pub record ReadScripts : Type 0 where
   pub third_words : map (word_in 3) (calls_of two_texts) ≡ [] ∷ codes "r" ∷ []
   pub pids : places_of three_tasks ≡ (0 ∷ 1 ∷ 1 ∷ []) ∷ (1 ∷ 1 ∷ 2 ∷ []) ∷ (2 ∷ 1 ∷ 3 ∷ []) ∷ (1 ∷ 2 ∷ 4 ∷ []) ∷ (0 ∷ 2 ∷ 5 ∷ []) ∷ []
   pub names : task_names (calls_of three_tasks) ≡ codes "init" ∷ codes "B" ∷ codes "C" ∷ []
+  pub longest_name : task_names (calls_of (codes "init fork abcdefghijklmnop\nabcdefghijklmnop exit")) ≡ codes "init" ∷ codes "abcdefghijklmnop" ∷ []
   pub longest_file : length (calls_of (codes "init write abcdefghijklmnopqrstuvwxyz012345 0")) ≡ 1
   pub most_tasks : length (task_names (calls_of (forks 63))) ≡ 64
   pub too_many_tasks : parse (forks 64) ≡ Err (TooLarge Tasks)
