@@ -33,6 +33,14 @@ class TestLimits(FrontDoorTest):
         self.assertIn("\ntask 63 T62\n", said.out)
         self.refused(forks + "init fork T63\n", 7, "smack: too large: tasks")
 
+    def test_most_bytes_of_a_text(self) -> None:
+        """65,536 bytes in lines of two bytes each, and one byte more in the last of them."""
+        most = "init write revoke-subject 32768\n" + "A\n" * 32_768
+        said = self.replay(most)
+        self.assertEqual(said.status, 0)
+        self.assertTrue(said.out.endswith("\no revoke A\nend 1 0 0\n"))
+        self.refused(most[:-1] + "A\n", 7, "smack: too large: text")
+
     def test_most_rows(self) -> None:
         """A list of n labels takes n + 2 rows: the list is cleared, each label is added, and the batch."""
         most = onlycap(["_"] * 32_000) * 32 + onlycap(["_"] * 24_510)
