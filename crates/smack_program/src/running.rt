@@ -1,8 +1,9 @@
-ghost use Rattle.std.specs.Prelude.{Option, map, string_bytes};
+ghost use Rattle.std.specs.Prelude.{◌≡◌, Option, map, string_bytes};
 ghost use Rattle.outside.specs.Seen.{seen};
 ghost use Rattle.smack_kernel.specs.Answers.{ClosedValue};
 ghost use Rattle.smack_program.specs.declared.status.Status.{Status as StatusOf};
 ghost use Rattle.smack_program.specs.Program.{ProgramEnds};
+ghost use Rattle.smack_program.specs.Statuses.{code_of};
 
 use crate::status::Status;
 use crate::telling::tell;
@@ -11,7 +12,7 @@ use outside::{Gate, OpenGate, Sink, SinkFault, Source, StdSink, StdSource};
 use smack_base::Sequence;
 use std::alloc::Global;
 use std::env;
-use std::io::{Read, Write};
+use std::io::{Error, ErrorKind, Read, Write};
 use std::rt::Env;
 use std::sync::Wait;
 use std::thread::Threads;
@@ -46,35 +47,57 @@ pub fn told_main<R: Threads + Wait + Sync, S: Source, K: Sink, E: Sink, G: Gate 
     }
 }
 
-/// The words of the command line, without the program's name; None where they cannot be had.
-fn words<R: Env + AllocGlobal>(rt: &R) -> Option<Sequence<String>> {
-    let mut words = Sequence::new(rt.alloc());
-    match env::args(rt) {
-        Ok(args) => {
-            for word in args.skip(1) {
-                if words.push(word).is_err() {
-                    return None;
-                }
-            }
-        }
-        Err(_) => return None,
+/// What to answer where the words of the command line cannot be had. Words that are no UTF-8 are
+/// those of no command.
+fn status_of_words(error: Error) -> Status {
+    match error.kind() {
+        ErrorKind::OutOfMemory => Status::OutOfMemory,
+        _ => Status::Usage,
     }
-    Some(words)
 }
 
-/// The program over the command line and these streams, and its exit status. Where there is no
-/// memory for the words or for what the output keeps back, nothing is read or written.
+/// The words of the command line, without the program's name.
+fn words<R: Env + AllocGlobal>(rt: &R) -> Result<Sequence<String>, Status> {
+    let mut words = Sequence::new(rt.alloc());
+    for word in env::args(rt).map_err(status_of_words)?.skip(1) {
+        if words.push(word).is_err() {
+            return Err(Status::OutOfMemory);
+        }
+    }
+    Ok(words)
+}
+
+/// The words, and a sink over the output.
+fn begun<R: Env + AllocGlobal, O: Write + Drop>(
+    rt: &R,
+    output: O,
+) -> Result<(Sequence<String>, StdSink<O>), Status> {
+    let words = words(rt)?;
+    match StdSink::new(rt.alloc(), output) {
+        Ok(sink) => Ok((words, sink)),
+        Err(_) => Err(Status::OutOfMemory),
+    }
+}
+
+/// The program over the command line and these streams, and its exit status, which is that of a
+/// status. Where the words of the command line cannot be had, or there is no memory for what the
+/// output keeps back, nothing is read or written but the line on standard error.
 pub fn program<
     R: Env + AllocGlobal + Threads + Wait + Sync,
     I: Read + Drop,
     O: Write + Drop,
     E: Write + Drop,
->(rt: &R, input: I, output: O, errors: E) -> u8 {
+>(rt: &R, input: I, output: O, errors: E) -> u8
+    ensures { (status : StatusOf) × (result ≡ code_of status) }
+{
     let mut errors = StdSink::unbuffered(rt.alloc(), errors);
     let mut source = StdSource::new(input);
-    let (Some(words), Ok(mut sink)) = (words(rt), StdSink::new(rt.alloc(), output)) else {
-        let _ = tell(&mut errors, Status::OutOfMemory);
-        return Status::OutOfMemory.code();
+    let (words, mut sink) = match begun(rt, output) {
+        Ok(both) => both,
+        Err(status) => {
+            let _ = tell(&mut errors, status);
+            return status.code();
+        }
     };
     told_main(
         rt,
