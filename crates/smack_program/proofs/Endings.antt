@@ -1,5 +1,5 @@
 use Rattle.std.proofs.Common.{◌≡◌, ◌≢◌, ◌≤◌, ◌<◌, ℕ, List, length, refl, sym, ap, ◌∙◌, arith, inl, inr, true, Some, None, Ok, Err}
-use Rattle.std.specs.Prelude.{◌⊎◌, Option, Result, IsTrue, IfSome, false}
+use Rattle.std.specs.Prelude.{◌⊎◌, Option, Result, IsTrue, IsFalse, IfSome, false}
 use Rattle.std.proofs.lemmas.Bool.{lt-ltb}
 use Rattle.outside.specs.Faults.{AreTold}
 use Rattle.outside.specs.Seen.{Seen}
@@ -14,7 +14,7 @@ use Rattle.script_spec.specs.Grammar.{parse, most_bytes}
 use Rattle.script_text.specs.Scripts.{Fails}
 use Rattle.smack_program.specs.declared.status.Status.{Status}
 use Rattle.smack_program.specs.declared.status.Status.TheVariants.{Done, Usage, ReadFault, WriteFault, OutOfMemory, TooLarge}
-use Rattle.smack_program.specs.Statuses.{status_of, read_status, due_status, is_refusal}
+use Rattle.smack_program.specs.Statuses.{status_of, read_status, due_status, is_refusal, may_have_written}
 use Rattle.smack_program.specs.Parts.{IsRead, IsUnread, IsWritten, IsUnwritten}
 use Rattle.smack_program.specs.Scripts.{IsNoScript, ScriptEnds}
 use Rattle.smack_program.proofs.FewBytes.{few_bytes}
@@ -54,6 +54,13 @@ not_refused status other is none refused =
     let also : is_refusal status ≡ true = refused in
     cc
 
+-- a status at which something may have been written
+not_untouched : (status other : Status) → status ≡ other → may_have_written other ≡ true → IsFalse (may_have_written status) → ⊥
+not_untouched status other is may none =
+    let known : may_have_written status ≡ true = ap may_have_written is ∙ may in
+    let also : may_have_written status ≡ false = none in
+    cc
+
 unread_for : (answers : List ℕ → Result (List ℕ) Status → Type 0) (source source' sink : Seen) (status : Status)
     → IsUnread source source' status → (status ≡ ReadFault) ⊎ ((status ≡ TooLarge Bytes) ⊎ (status ≡ OutOfMemory))
     → ScriptEnds answers source source' sink sink status
@@ -65,6 +72,7 @@ unread_for answers source source' sink status unread (inl is) = record {
   exceeded = unread.exceeded;
   read = unread.read;
   write = quiet _ _ _ refl (λ d. cc);
+  untouched = λ d. refl;
   cut = λ d. cc;
   spent = λ d. inl refl;
   complete = λ told calm. absurd (calm.read (unread.read.cause is));
@@ -78,6 +86,7 @@ unread_for answers source source' sink status unread (inr (inl is)) = record {
   exceeded = unread.exceeded;
   read = unread.read;
   write = quiet _ _ _ refl (λ d. cc);
+  untouched = λ d. refl;
   cut = λ d. cc;
   spent = λ d. inl refl;
   complete = λ told calm. inl
@@ -92,6 +101,7 @@ unread_for answers source source' sink status unread (inr (inr is)) = record {
   exceeded = unread.exceeded;
   read = unread.read;
   write = quiet _ _ _ refl (λ d. cc);
+  untouched = λ d. refl;
   cut = λ d. cc;
   spent = λ d. inl refl;
   complete = λ told calm. inr is;
@@ -114,6 +124,7 @@ spent_ends answers source source' sink bytes read = record {
   exceeded = λ more. inr refl;
   read = quiet _ _ _ read.same (λ is. cc);
   write = quiet _ _ _ refl (λ is. cc);
+  untouched = λ is. refl;
   cut = λ is. cc;
   spent = λ is. inl refl;
   complete = λ told calm. inr refl;
@@ -133,6 +144,7 @@ refused_ends answers source source' sink bytes f read e refused not_done not_rea
   exceeded = λ more. absurd (read.no_more more);
   read = quiet _ _ _ read.same not_read;
   write = quiet _ _ _ refl not_write;
+  untouched = λ is. refl;
   cut = λ is. absurd (not_write is);
   spent = λ is. absurd (not_spent is);
   complete = λ told calm. inl (due_to source source' bytes told (status_of f) read calm.told (ap read_status e));
@@ -171,6 +183,7 @@ written_ends answers source source' sink sink' bytes text read answer due writte
   exceeded = λ more. absurd (read.no_more more);
   read = quiet _ _ _ read.same (λ is. cc);
   write = quiet _ _ _ written.same (λ is. cc);
+  untouched = λ is. cc;
   cut = λ is. cc;
   spent = λ is. cc;
   complete = λ told calm. inl (due_to source source' bytes told Done read calm.told due);
@@ -188,6 +201,7 @@ unwritten_for answers source source' sink sink' bytes text status read answer un
   exceeded = λ more. absurd (read.no_more more);
   read = quiet _ _ _ read.same (λ d. cc);
   write = unwritten.write;
+  untouched = λ none. absurd (not_untouched status WriteFault is refl none);
   cut = λ d. (bytes, text, (read.took, read.ends), answer, unwritten.front);
   spent = λ d. cc;
   complete = λ told calm. absurd (calm.written (unwritten.write.cause is));
@@ -201,6 +215,7 @@ unwritten_for answers source source' sink sink' bytes text status read answer un
   exceeded = λ more. inr is;
   read = quiet _ _ _ read.same (λ d. cc);
   write = unwritten.write;
+  untouched = λ none. absurd (not_untouched status OutOfMemory is refl none);
   cut = λ d. cc;
   spent = λ d. inr (bytes, text, (read.took, read.ends), answer, unwritten.front);
   complete = λ told calm. inr is;

@@ -6,3 +6,4 @@ pub mod Runs
 pub mod NoFaults
 pub mod Malformed
 pub mod FaultsTold
+pub mod ExitStatuses

@@ -1,4 +1,4 @@
-use Rattle.std.specs.Prelude.{◌≡◌, ◌≢◌, ◌<◌, ◌⊎◌, ℕ, List, Some, Result, Ok, Err, IsTrue, IfSome, IsSomeAnd}
+use Rattle.std.specs.Prelude.{◌≡◌, ◌≢◌, ◌<◌, ◌⊎◌, ℕ, List, Some, Result, Ok, Err, IsTrue, IsFalse, IfSome, IsSomeAnd}
 use Rattle.outside.specs.Faults.{Rose, AreTold}
 use Rattle.outside.specs.Seen.{Seen}
 use Rattle.outside.specs.Source.{Takes, AtEnd}
@@ -7,7 +7,7 @@ use Rattle.outside.specs.Reading.{taken_count}
 use Rattle.script_spec.specs.declared.What.TheVariants.{Bytes}
 use Rattle.smack_program.specs.declared.status.Status.{Status}
 use Rattle.smack_program.specs.declared.status.Status.TheVariants.{Done, Usage, ReadFault, WriteFault, OutOfMemory, TooLarge}
-use Rattle.smack_program.specs.Statuses.{is_refusal}
+use Rattle.smack_program.specs.Statuses.{is_refusal, may_have_written}
 
 -- A command answers the bytes that it reads: `answers bytes (Ok text)` says that this text is an answer to them, and
 -- `answers bytes (Err status)` that they are refused with this status.
@@ -52,6 +52,8 @@ pub record CommandEnds (answers : List ℕ → Result (List ℕ) Status → Type
   -- a fault of reading is told, and so is a fault of writing: each comes where its count rose, and only there
   pub read : AreTold source.faults source'.faults (status ≡ ReadFault)
   pub write : AreTold sink.faults sink'.faults (status ≡ WriteFault)
+  -- where the status is none at which something may have been written, the sink is as it was
+  pub untouched : IsFalse (may_have_written status) → sink' ≡ sink
   -- what a fault of writing leaves is a front of an answer
   pub cut : status ≡ WriteFault → IsCutShort answers source source' sink sink'
   -- want of memory leaves nothing written, or a front of an answer

@@ -25,6 +25,8 @@ pub record ProgramEnds (words : List (List ℕ)) (kept : Option ClosedValue) (so
   pub runs : AreRun words → RunEnds kept source source' sink sink' status
   -- usage is the status of other words, and of those alone
   pub usage : (status ≡ Usage) ↔ (AreCommand words → ⊥)
+  -- nothing is then read or written
+  pub unread : status ≡ Usage → (source' ≡ source) × (sink' ≡ sink)
   -- the line of the status was written on standard error, or after a fault a front of it
   pub told : OnOk ending.told (Appends errors.bytes errors'.bytes (error_text status))
   pub cut : OnErr ending.told (AppendsFront errors.bytes errors'.bytes (error_text status))

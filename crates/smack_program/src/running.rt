@@ -1,5 +1,7 @@
-ghost use Rattle.std.specs.Prelude.{◌≡◌, Option, map, string_bytes};
+ghost use Rattle.std.specs.Prelude.{◌≡◌, ◌≢◌, ◌+◌, [], Option, map, string_bytes};
 ghost use Rattle.outside.specs.Seen.{seen};
+ghost use Rattle.outside.specs.Reading.{ReadsAtMost};
+ghost use Rattle.script_spec.specs.Grammar.{most_bytes};
 ghost use Rattle.smack_kernel.specs.Answers.{ClosedValue};
 ghost use Rattle.smack_program.specs.declared.status.Status.{Status as StatusOf};
 ghost use Rattle.smack_program.specs.Program.{ProgramEnds};
@@ -27,7 +29,8 @@ pub struct Ending {
 }
 
 /// The program: does what the words of the command line say, tells the status on standard error,
-/// and gives the exit status. What is kept of a run ends here.
+/// and gives the exit status. What is kept of a run ends here. At exit status 2 nothing is read, at
+/// each but 0, 5 and 6 nothing is written, and at 0 the sink keeps nothing back.
 pub fn told_main<R: Threads + Wait + Sync, S: Source, K: Sink, E: Sink, G: Gate + Sync>(
     rt: &R,
     alloc: Global,
@@ -37,7 +40,11 @@ pub fn told_main<R: Threads + Wait + Sync, S: Source, K: Sink, E: Sink, G: Gate 
     errors: &mut E,
     gate: &G,
 ) -> Ending
-    ensures { (kept : Option ClosedValue) × (status : StatusOf) × ProgramEnds (map string_bytes words.now) kept (seen S.left S.faults source.old) (seen S.left S.faults source.new) (seen K.taken K.faults sink.old) (seen K.taken K.faults sink.new) (seen E.taken E.faults errors.old) (seen E.taken E.faults errors.new) status result }
+    ensures ends { (kept : Option ClosedValue) × (status : StatusOf) × ProgramEnds (map string_bytes words.now) kept (seen S.left S.faults source.old) (seen S.left S.faults source.new) (seen K.taken K.faults sink.old) (seen K.taken K.faults sink.new) (seen E.taken E.faults errors.old) (seen E.taken E.faults errors.new) status result }
+    ensures unread { result.code ≡ code_of Status.Usage → source.new ≡ source.old }
+    ensures handed_on { result.code ≡ code_of Status.Done → K.kept sink.new ≡ [] }
+    ensures untouched { result.code ≢ code_of Status.Done → result.code ≢ code_of Status.WriteFault → result.code ≢ code_of Status.OutOfMemory → sink.new ≡ sink.old }
+    ensures reads { ReadsAtMost (S.reads source.old) (S.reads source.new) (most_bytes + 2) }
 {
     let mut kept = None;
     let status = smack_main(rt, alloc, words, source, sink, gate, &mut kept);
