@@ -3,9 +3,10 @@ ghost use Rattle.std.specs.Prelude.{◌≡◌};
 use crate::kernel_calls::{
     answers, ask, booted, catches_up, child_of, enters, fork, publishes, refuses, take, tell, write,
 };
-use smack_base::Pid;
+use rule_fold::RuleIndex;
+use smack_base::{Cap, LabelId, Pid};
 use smack_kernel::{Asked, Called, Kernel, Refusal, Task, Written};
-use smack_world::{Call, TaskCall};
+use smack_world::{Call, Reply, Stepped, TaskCall, Why, World};
 use std::alloc::{AllocError, Global};
 use std::process::Abort;
 use std::sync::Wait;
@@ -226,5 +227,60 @@ fn ends_a_child<R: Wait + Abort + AllocGlobal>(rt: &R) -> Result<bool, Fail> {
 #[test]
 fn a_full_count_of_calls(rt: HostRuntime) -> Result<(), Fail> {
     assert!(rt; ends_a_child(&rt)?);
+    Ok(())
+}
+
+/// The call that a task may not make without CAP_MAC_ADMIN.
+fn relabel() -> Call {
+    Call::Task(TaskCall::Relabel { l: LabelId(6) })
+}
+
+/// Whether the first task of a new world gives CAP_MAC_ADMIN up, by its first call.
+fn gives_up(alloc: Global, world: &mut World, rules: &RuleIndex) -> bool {
+    let call = Call::Task(TaskCall::DropCap { cap: Cap::MacAdmin });
+    matches!(
+        world.step(alloc, rules, 0, 1, call),
+        Ok(Stepped::Entered {
+            place: 1,
+            checks: _,
+            reply: Reply::Ok
+        })
+    )
+}
+
+/// Whether the next 131,071 calls are refused, and each leaves an entry.
+fn refuses_all(alloc: Global, world: &mut World, rules: &RuleIndex) -> bool {
+    let mut all = true;
+    for seq in 2..131_073u32 {
+        let stepped = world.step(alloc, rules, 0, seq, relabel());
+        let refused = matches!(
+            stepped,
+            Ok(Stepped::Entered {
+                place: _,
+                checks: _,
+                reply: Reply::Refused(Why::NotPrivileged)
+            })
+        );
+        all = all && refused;
+    }
+    all
+}
+
+/// Whether the call comes back for want of an entry.
+fn finds_no_room(alloc: Global, world: &mut World, rules: &RuleIndex) -> bool {
+    matches!(
+        world.step(alloc, rules, 0, 131_073, relabel()),
+        Ok(Stepped::TrailFull(Call::Task(TaskCall::Relabel { l: LabelId(6) })))
+    )
+}
+
+#[test]
+fn a_full_trail(rt: HostRuntime) -> Result<(), Fail> {
+    let rules = RuleIndex::new(rt.alloc())?;
+    let mut world = World::new(rt.alloc())?;
+    assert!(rt; gives_up(rt.alloc(), &mut world, &rules));
+    assert!(rt; refuses_all(rt.alloc(), &mut world, &rules));
+    assert!(rt; finds_no_room(rt.alloc(), &mut world, &rules));
+    assert!(rt; world.entries() == 131_072);
     Ok(())
 }

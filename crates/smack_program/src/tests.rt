@@ -1,7 +1,10 @@
 use crate::{Status, replay_calm, replay_main, told_main};
 use outside::{CalmSink, CalmSource, MemSink, MemSource, OpenGate, StdSink};
-use script_text::{Cause, What};
+use run_report::put_record;
+use script_run::replay;
+use script_text::{Cause, Script, What};
 use smack_base::Bytes;
+use std::alloc::{AllocError, Global};
 use std::io;
 use std::io::{ErrorKind, Write};
 use std::process::Abort;
@@ -84,6 +87,26 @@ fn replays(
 fn scripts_and_their_records(rt: HostRuntime) -> Result<(), Fail> {
     for (script, text) in RECORDS {
         assert!(rt; replays(&rt, script.as_bytes(), Status::Done, text.as_bytes())?);
+    }
+    Ok(())
+}
+
+/// Whether the record of a script that is read and replayed has this text.
+fn has_text(alloc: Global, script: &[u8], text: &[u8]) -> Result<bool, AllocError> {
+    let Ok(script) = Script::read(alloc, script) else {
+        return Ok(false);
+    };
+    let record = replay(alloc, &script)?;
+    let mut sink = CalmSink::new(alloc, 7);
+    let put = put_record(alloc, &record, &mut sink);
+    Ok(put.is_ok() && sink.taken() == text)
+}
+
+/// What the program writes for a script is the text of the record that a user of the library has.
+#[test]
+fn records_without_the_program(rt: HostRuntime) -> Result<(), Fail> {
+    for (script, text) in RECORDS {
+        assert!(rt; has_text(rt.alloc(), script.as_bytes(), text.as_bytes())?);
     }
     Ok(())
 }
@@ -225,6 +248,8 @@ fn each_fault_of_reading_and_writing(rt: HostRuntime) -> Result<(), Fail> {
         assert!(rt; taken.len() < RECORD.len() && (write == 1 || longest < taken.len()));
         longest = taken.len();
     }
+    let told = ended(&rt, &["replay"], SCRIPT, (0, 2))?;
+    assert!(rt; told.code == 5 && told.text.items() == b"smack 1\n".as_slice());
     let told = ended(&rt, &["replay"], SCRIPT, (0, WRITES + 1))?;
     assert!(rt; told.code == 0 && told.text.items() == RECORD);
     for read in [1, 2] {
