@@ -1,3 +1,4 @@
 pub mod Items
 pub mod Grammar
 pub mod Worked
+pub mod Slices
