@@ -86,6 +86,7 @@ replayed_is_legal bytes lines is =
       waited = waits_are_fresh labels names table lines run replays;
     } in
     let legal : IsLegal (record_of labels names run) = record {
+      names = table;
       calls = calls;
       entries = entries_are_judged labels names lines run replays;
       batches = batches_are_privileged labels names lines run replays;

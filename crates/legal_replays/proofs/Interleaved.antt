@@ -1,8 +1,10 @@
 use Rattle.std.proofs.Common.{◌≡◌, ◌≤◌, ◌<◌, ℕ, zero, suc, true, ◌&&◌, if◌then◌else◌, nat_le, inl, inr, List, [], ◌∷◌, length, refl, sym, ap, subst, arith}
 use Rattle.std.proofs.lemmas.Bool.{ne_eqb, le-leb, lt-leb}
+use Rattle.std.specs.Prelude.{slice_index_or}
 use Rattle.smack_base.specs.declared.ids.Pid.{Pid}
 use Rattle.smack_base.specs.declared.cap.Cap.TheVariants.{MacAdmin}
 use Rattle.smack_base.specs.declared.rule_op.RuleOp.TheVariants.{Set}
+use Rattle.text_spec.specs.Names.{place_of}
 use Rattle.rules_spec.specs.declared.Batch.{Batch}
 use Rattle.rules_spec.specs.AskedModes.{read}
 use Rattle.rules_spec.specs.Creds.{is_effective}
@@ -16,6 +18,7 @@ use Rattle.record_spec.specs.declared.AskedLine.{AskedLine}
 use Rattle.record_spec.specs.declared.AskedWhat.TheVariants.{Ask, Wait}
 use Rattle.record_spec.specs.declared.RunRecord.{RunRecord}
 use Rattle.replay_spec.specs.Laws.{calls_at}
+use Rattle.replay_spec.specs.Plain.{IsNameTable}
 use Rattle.legal_spec.specs.Calls.{Stands, IsForkOf, IsNumberOf, IsTask, IsCall, batch, entry, asked, call_count}
 use Rattle.legal_spec.specs.Legal.{IsEachCallOnce, AreJudged, IsSo, HasWaited, IsFresh, IsLegal}
 use Rattle.legal_spec.specs.Fits.{IsRecorded, batch as batch_of, entry as entry_of, asked as asked_of, HasItsLines}
@@ -190,8 +193,16 @@ fresh = record {
       (λ is. wait_told pid (same_wait b_pid pid is)) (λ is. absurd (asks_not_waits pid is)) i a at;
 }
 
+named_once : (pid : ℕ) → pid < length faster_child.names → place_of faster_child.names (slice_index_or faster_child.names pid []) ≡ pid
+named_once zero within = refl
+named_once (suc zero) within = refl
+named_once (suc (suc n)) within = absurd (omega (arith, within))
+
+named : IsNameTable faster_child.names
+named = record { are = (refl, (refl, tt)); once = named_once; some = omega arith }
+
 legal : IsLegal faster_child
-legal = record { calls = calls; entries = entries; batches = privileged; asked = answered; fresh = fresh }
+legal = record { names = named; calls = calls; entries = entries; batches = privileged; asked = answered; fresh = fresh }
 
 -- what each line has become
 line_recorded : (task i : ℕ) (l : ScriptLine) → Stands script_lines i l → l.task ≡ task → IsRecorded faster_child task l

@@ -15,7 +15,7 @@ use Rattle.world_spec.specs.Steps.{verdict_by_creds}
 use Rattle.record_spec.specs.declared.AskedWhat.TheVariants.{Ask, Refused, Wait}
 use Rattle.legal_spec.specs.Calls.{Stands, IsForkOf, IsNumberOf, IsBefore, batch, asked, Descends, itself, child as child_of}
 use Rattle.legal_spec.specs.Legal.{IsLegal}
-use Rattle.legal_replays.specs.RefusedRecords.{a_label, c_label, b_pid, c_pid, published, entered, asked_in, by_rule, without_rule, stale_ask, wrong_answer, stale_child, early_wait, early_entry, early_child, swapped_batches, unprivileged_batch, falling_version, swapped_lines, unknown_task, missing_number, wrong_reply, wrong_check, missing_check, entry_beyond, ask_beyond, privileged_refusal, own_file_refusal, wrong_rows, wait_below_grandchild, RefusedRecords}
+use Rattle.legal_replays.specs.RefusedRecords.{a_label, c_label, b_pid, c_pid, published, entered, asked_in, by_rule, without_rule, stale_ask, wrong_answer, stale_child, early_wait, early_entry, early_child, swapped_batches, unprivileged_batch, falling_version, swapped_lines, unknown_task, missing_number, name_twice, wrong_reply, wrong_check, missing_check, entry_beyond, ask_beyond, privileged_refusal, own_file_refusal, wrong_rows, wait_below_grandchild, RefusedRecords}
 use Rattle.legal_replays.proofs.Places.{same_some}
 
 -- the case of the first check; 0 where there is none
@@ -117,6 +117,9 @@ task legal = by (legal.calls.of_tasks 1 1 0 0 (asked 0 (asked_in 1 1 0 (Ask with
 number : IsLegal missing_number → ⊥
 number legal = let wrong : ◌≡◌ {A = ℕ} 0 1 = legal.calls.once 0 1 in omega (arith, wrong)
 
+name : IsLegal name_twice → ⊥
+name legal = let wrong : ◌≡◌ {A = ℕ} 0 1 = legal.names.once 1 (omega arith) in omega (arith, wrong)
+
 reply : IsLegal wrong_reply → ⊥
 reply legal = let wrong : ◌≡◌ {A = Reply} Done (RefusedBy Again) = legal.entries.steps.1 in cc
 
@@ -184,6 +187,7 @@ refused = record {
   lines = lines;
   task = task;
   number = number;
+  name = name;
   reply = reply;
   check = check;
   no_check = no_check;

@@ -123,6 +123,10 @@ unknown_task = record_of [] [] (asked_in 1 1 0 (Ask without_rule) ∷ [])
 abbrev pub missing_number : RunRecord
 missing_number = record_of [] (entered 0 2 0 Take (RefusedBy Again) ∷ []) []
 
+-- two tasks of one name
+abbrev pub name_twice : RunRecord
+name_twice = record (record_of [] [] []) { names = codes "init" ∷ codes "init" ∷ [] }
+
 -- an object call with another reply than its step gives: no signal waits
 abbrev pub wrong_reply : RunRecord
 wrong_reply = record_of [] (entered 0 1 0 Take Done ∷ []) []
@@ -185,6 +189,7 @@ pub record RefusedRecords : Type 0 where
   pub lines : IsLegal swapped_lines → ⊥
   pub task : IsLegal unknown_task → ⊥
   pub number : IsLegal missing_number → ⊥
+  pub name : IsLegal name_twice → ⊥
   pub reply : IsLegal wrong_reply → ⊥
   pub check : IsLegal wrong_check → ⊥
   pub no_check : IsLegal missing_check → ⊥

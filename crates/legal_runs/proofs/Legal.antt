@@ -20,6 +20,8 @@ use Rattle.record_spec.specs.declared.AskedLine.{AskedLine}
 use Rattle.record_spec.specs.declared.AskedWhat.{AskedWhat}
 use Rattle.record_spec.specs.declared.AskedWhat.TheVariants.{Ask, Refused, Wait}
 use Rattle.record_spec.specs.declared.RunRecord.{RunRecord}
+use Rattle.replay_spec.specs.Plain.{IsNameTable}
+use Rattle.plain_records.proofs.Tasks.{names_are_a_table}
 use Rattle.legal_spec.specs.Calls.{Stands, IsNumberOf, IsCall, batch, entry, asked, Descends, itself, child}
 use Rattle.legal_spec.specs.Legal.{IsEachCallOnce, AreJudged, ArePrivileged, IsRefused, IsSo, AreAnswered, HasWaited, IsFresh, IsLegal}
 use Rattle.legal_spec.specs.Lines.{IsAskedOfLine}
@@ -370,13 +372,13 @@ module _ (full : Bool) (s : Scripted) (left : List ScriptLine) (done : full ≡ 
     waited = has_waited;
   }
 
-  pub is_legal : IsLegal record_of
-  is_legal = record { calls = calls_once; entries = are_judged; batches = are_privileged; asked = are_answered; fresh = is_fresh }
+  pub is_legal : IsNameTable s.names → IsLegal record_of
+  is_legal table = record { names = table; calls = calls_once; entries = are_judged; batches = are_privileged; asked = are_answered; fresh = is_fresh }
 
 pub runs_are_legal : RunsAreLegal
 runs_are_legal bytes lines is table w answers ran closed c =
     let s = scripted lines in
-    let legal = is_legal true s ran.left (λ _. ran.on refl) table w ran.went (table_of lines) closed c in
+    let legal = is_legal true s ran.left (λ _. ran.on refl) table w ran.went (table_of lines) closed c (names_are_a_table bytes lines is) in
     subst (λ (x : List Batch × List Entry × List AskedLine).
     IsLegal (record { labels = table_of lines; names = task_names lines; journal = x.0; history = x.1; asked = in_order x.2 }))
     (λ i. (sym c.journal i, sym c.history i, sym (ran.asked refl) i)) legal

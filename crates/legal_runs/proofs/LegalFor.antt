@@ -26,7 +26,7 @@ runs_are_legal_for_scripts bytes lines is table w told ran closed c =
     λ n e pid st call. any_fork s w.journal w.history e (stands_has w.history n e st) pid call 0 g.run g.kids g.others
     (λ u i. subst (Has e) g.own_entries (has_those (λ (y : Entry). y.task) 0 w.history e i u)) e.task refl
     (entry_task true s ran.left done table w g (table_of lines) closed c n e st) in
-    let legal = is_legal true s ran.left done table w g (table_of lines) closed c in
+    let legal = is_legal true s ran.left done table w g (table_of lines) closed c (names_are_a_table bytes lines is) in
     let fits = fits_script lines (good_lines bytes lines is) (names_are_a_table bytes lines is) ran.left done table w g (table_of lines) closed c forked in
     subst (λ (x : List Batch × List Entry × List AskedLine).
     IsLegalFor lines (record { labels = table_of lines; names = task_names lines; journal = x.0; history = x.1; asked = in_order x.2 }))

@@ -16,6 +16,7 @@ use Rattle.record_spec.specs.declared.AskedWhat.{AskedWhat}
 use Rattle.record_spec.specs.declared.AskedWhat.TheVariants.{Ask, Refused, Wait}
 use Rattle.record_spec.specs.declared.RunRecord.{RunRecord}
 use Rattle.replay_spec.specs.Laws.{calls_at}
+use Rattle.replay_spec.specs.Plain.{IsNameTable}
 use Rattle.legal_spec.specs.Calls.{Stands, IsForkOf, IsTask, IsCall, IsBefore, call_count, Descends}
 
 -- Each call once and in order.
@@ -105,6 +106,8 @@ pub record IsFresh (r : RunRecord) : Type 0 where
 -- A record is legal: it is one history of one world, under one journal of rules, whatever the order in which the tasks
 -- ran.
 pub record IsLegal (r : RunRecord) : Type 0 where
+  -- the names of its tasks are names, and distinct
+  pub names : IsNameTable r.names
   pub calls : IsEachCallOnce r
   pub entries : AreJudged r
   pub batches : ArePrivileged r
