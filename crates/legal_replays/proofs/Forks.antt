@@ -69,7 +69,7 @@ same_parent : (a b : ℕ) → ◌≡◌ {A = Option ℕ} (Some a) (Some b) → a
 same_parent a b is = cc
 
 -- the verb of a line that forks
-forks_by : (l : ScriptLine) (verb : Option Verb) → verb_in l ≡ verb → is_fork (change_by verb l) ≡ true → verb_in l ≡ Some (TaskVerbOf ForkVerb)
+pub forks_by : (l : ScriptLine) (verb : Option Verb) → verb_in l ≡ verb → is_fork (change_by verb l) ≡ true → verb_in l ≡ Some (TaskVerbOf ForkVerb)
 forks_by l None is forks = cc
 forks_by l (Some Write) is forks = cc
 forks_by l (Some AskVerb) is forks = cc

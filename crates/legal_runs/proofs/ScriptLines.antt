@@ -1,16 +1,16 @@
 -- The lines of a script: the numbers of a task's lines, and the line that forks a task.
-use Rattle.std.proofs.Common.{◌≡◌, ℕ, ◌+◌, ◌<◌, ◌≤◌, ◌⊎◌, ◌==◌, nat_le, if◌then◌else◌, List, [], ◌∷◌, ◌++◌, length, Bool, true, false, sym, refl, ap, ◌∙◌, subst, arith, append_assoc, append-nil, length-append, ⊎_elim, inl, inr, Option, Some, None}
+use Rattle.std.proofs.Common.{◌≡◌, ℕ, ◌+◌, ◌<◌, ◌≤◌, ◌⊎◌, ◌==◌, nat_le, if◌then◌else◌, List, [], ◌∷◌, ◌++◌, length, Bool, true, false, sym, refl, ap, ◌∙◌, subst, arith, append_assoc, append-nil, length-append, ⊎_elim, inl, inr, Some}
 use Rattle.std.specs.Prelude.{cond}
 use Rattle.std.proofs.lemmas.Bool.{cases_Bool, leb-true, leb-false, eqb-true}
 use Rattle.std.proofs.lemmas.List.Sums.{sum_by-append}
-use Rattle.script_spec.specs.declared.Verb.{Verb}
-use Rattle.script_spec.specs.declared.Verb.TheVariants.{Write, Ask, Wait, Task as TaskVerbOf, Tree as TreeVerbOf}
-use Rattle.script_spec.specs.declared.TaskVerb.TheVariants.{Fork as ForkVerb, Exit, Relabel, Drop, Kill, Take, Trace}
+use Rattle.script_spec.specs.declared.Verb.TheVariants.{Task as TaskVerbOf}
+use Rattle.script_spec.specs.declared.TaskVerb.TheVariants.{Fork as ForkVerb}
 use Rattle.script_spec.specs.Lines.{ScriptLine, verb_in}
-use Rattle.script_spec.specs.Tasks.{TaskChange, Forks, Exits, Awaits, Keeps, change_by, change_of, forked_name, is_fork, calls_by, task_names}
+use Rattle.script_spec.specs.Tasks.{TaskChange, Forks, Exits, Awaits, Keeps, change_of, forked_name, is_fork, calls_by, task_names}
 use Rattle.live_table.specs.Lists.{Has, here, there}
 use Rattle.plain_records.proofs.GoodLines.{IsGoodLine, AreGoodLines}
 use Rattle.plain_records.proofs.Tasks.{names_more}
+use Rattle.legal_replays.proofs.Forks.{forks_by}
 use Rattle.task_runs.specs.Scripts.{Scripted, lines_by}
 use Rattle.task_runs.specs.Deeds.{Deed, Fits, FitsTo}
 use Rattle.legal_runs.proofs.Counts.{count-cons}
@@ -77,21 +77,6 @@ one_or_none (Forks name) = inl (refl, refl)
 one_or_none Exits = inr refl
 one_or_none (Awaits name) = inr refl
 one_or_none Keeps = inr refl
-
--- the verb of a line that forks
-forks_by : (l : ScriptLine) (verb : Option Verb) → verb_in l ≡ verb → is_fork (change_by verb l) ≡ true → verb_in l ≡ Some (TaskVerbOf ForkVerb)
-forks_by l None is forks = cc
-forks_by l (Some Write) is forks = cc
-forks_by l (Some Ask) is forks = cc
-forks_by l (Some Wait) is forks = cc
-forks_by l (Some (TaskVerbOf ForkVerb)) is forks = is
-forks_by l (Some (TaskVerbOf Exit)) is forks = cc
-forks_by l (Some (TaskVerbOf Relabel)) is forks = cc
-forks_by l (Some (TaskVerbOf Drop)) is forks = cc
-forks_by l (Some (TaskVerbOf Kill)) is forks = cc
-forks_by l (Some (TaskVerbOf Take)) is forks = cc
-forks_by l (Some (TaskVerbOf Trace)) is forks = cc
-forks_by l (Some (TreeVerbOf verb)) is forks = cc
 
 -- the line that forks the task of a pid
 pub record ForkLine (lines : List ScriptLine) (pid : ℕ) : Type 0 where
