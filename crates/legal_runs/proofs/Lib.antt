@@ -25,3 +25,4 @@ pub mod Forking
 pub mod Room
 pub mod Orders
 pub mod Plain
+pub mod WorkedLoads

@@ -5,6 +5,7 @@
 #![tactic(auto)]
 
 ghost use Rattle.legal_runs.specs.Laws.{RunsAreWhole, RunsAreLegal, RunsAreLegalForScripts, RunsArePlain, RunsHaveRoom, ScriptsAreOrderly};
+ghost use Rattle.legal_runs.specs.WorkedLoads.{WorkedLoads};
 
 /// The law: however far the tasks of a script came, the first task may close the kernel.
 pub fn runs_are_whole()
@@ -36,4 +37,10 @@ pub fn runs_have_room()
 /// its task forked and did not wait for.
 pub fn scripts_are_orderly()
     ensures { ScriptsAreOrderly }
+{}
+
+/// How many rows a task loads at most where memory is found, of three texts, of none, and of an empty
+/// batch.
+pub fn worked_loads()
+    ensures { WorkedLoads }
 {}

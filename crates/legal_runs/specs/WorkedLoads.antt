@@ -1,0 +1,35 @@
+use Rattle.std.specs.Prelude.{◌≤◌, ◌+◌, ℕ, List, [], ◌∷◌, ◌++◌}
+use Rattle.smack_base.specs.declared.ids.LabelId.{LabelId}
+use Rattle.smack_base.specs.declared.rule_op.RuleOp.{RuleOp}
+use Rattle.smack_base.specs.declared.rule_op.RuleOp.TheVariants.{Set}
+use Rattle.rules_spec.specs.AskedModes.{read, write}
+use Rattle.rules_spec.specs.declared.Batch.{Batch}
+use Rattle.smack_kernel.specs.Tasks.{TaskValue, LoadsOnce}
+
+-- a batch of the first task
+abbrev pub published : ℕ → List RuleOp → Batch
+published seq ops = record { task = 0; seq = seq; ops = ops }
+
+-- the writes of a text of two lines
+abbrev pub two_rules : LabelId → LabelId → List RuleOp
+two_rules s o = Set s o read ∷ Set o s write ∷ []
+
+-- the journal after three texts of two lines each
+abbrev pub three_texts : LabelId → LabelId → List Batch
+three_texts s o = published 2 (two_rules s o) ∷ published 3 (two_rules s o) ∷ published 4 (two_rules s o) ∷ []
+
+-- a task that has seen this journal, and whose index has taken this version of it
+abbrev pub at : TaskValue → List Batch → ℕ → TaskValue
+at task journal version = record task { journal = journal; version = version }
+
+-- How many rows a task loads at most where memory is found.
+pub record WorkedLoads : Type 0 where
+  -- three texts of two lines each: two rows for the lines of each, and one for its head
+  pub texts : (child : TaskValue) (s o : LabelId) (before after : ℕ)
+      → LoadsOnce (at child [] 0) (at child (three_texts s o) 3) before after → after ≤ before + 9
+  -- nothing new
+  pub again : (child : TaskValue) (s o : LabelId) (before after : ℕ)
+      → LoadsOnce (at child (three_texts s o) 3) (at child (three_texts s o) 3) before after → after ≤ before
+  -- an empty batch
+  pub empty : (child : TaskValue) (s o : LabelId) (before after : ℕ)
+      → LoadsOnce (at child (three_texts s o) 3) (at child (three_texts s o ++ published 5 [] ∷ []) 4) before after → after ≤ before + 1
