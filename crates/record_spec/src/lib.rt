@@ -9,7 +9,8 @@
 use file_spec::Refusal;
 use label_table::Labels;
 use rules_spec::{Journal, Verdict};
-use smack_base::{Bytes, NameList, Pid, Sequence};
+use smack_base::{Bytes, Duplicate, NameList, Pid, Sequence};
+use std::alloc::AllocError;
 use world_spec::Trail;
 
 /// What a line that is neither a batch nor an object call did, with its answer.
@@ -21,6 +22,19 @@ pub enum AskedWhat {
     Refused { file: Bytes, fault: Refusal },
     /// A task waited for the end of the task with this pid.
     Wait { pid: Pid },
+}
+
+impl Duplicate for AskedWhat {
+    fn copy(&self) -> Result<AskedWhat, AllocError> {
+        match self {
+            AskedWhat::Ask(verdict) => Ok(AskedWhat::Ask(*verdict)),
+            AskedWhat::Refused { file, fault } => Ok(AskedWhat::Refused {
+                file: file.copy()?,
+                fault: *fault,
+            }),
+            AskedWhat::Wait { pid } => Ok(AskedWhat::Wait { pid: *pid }),
+        }
+    }
 }
 
 /// A line that is neither a batch nor an object call.
@@ -36,7 +50,18 @@ pub struct AskedLine {
     pub what: AskedWhat,
 }
 
-/// Asked, refused and waited lines, by rising task number and then call number.
+impl Duplicate for AskedLine {
+    fn copy(&self) -> Result<AskedLine, AllocError> {
+        Ok(AskedLine {
+            task: self.task,
+            seq: self.seq,
+            version: self.version,
+            what: self.what.copy()?,
+        })
+    }
+}
+
+/// Asked, refused and waited lines, by rising task number and then call number. `copy` copies them.
 pub type AskedLines = Sequence<AskedLine>;
 
 /// All that a run leaves.
