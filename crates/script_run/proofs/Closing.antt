@@ -17,37 +17,37 @@ use Rattle.legal_runs.proofs.LegalFor.{runs_are_legal_for_scripts}
 use Rattle.legal_runs.proofs.Plain.{runs_are_plain}
 use Rattle.legal_runs.proofs.Room.{runs_have_room}
 use Rattle.legal_runs.proofs.Orders.{scripts_are_orderly}
-use Rattle.script_run.specs.Closings.{IsScript, HasRun}
+use Rattle.script_text.specs.Scripts.{AreRead}
+use Rattle.script_run.specs.Closings.{HasRun}
 use Rattle.script_run.specs.Stops.{IsCause}
 use Rattle.script_run.specs.declared.making.Stop.{Stop}
 use Rattle.script_run.specs.declared.making.Stop.TheVariants as stops
 
-module _ (lines : List ScriptLine) (read : IsScript lines) where
-  -- the first task of a kernel may close it, however far it came
-  pub may_close : (stop : Bool) (table : TableId) (v w : TaskValue) (asked : List AskedLine) → v ≡ first_task table
-      → Ran stop (scripted lines) (lines_by 0 lines) [] v w [] asked → IsWhole w
-  may_close stop table v w asked first ran =
-      runs_are_whole read.0 lines read.1 stop table w asked
-      (subst (λ (u : TaskValue). Ran stop (scripted lines) (lines_by 0 lines) [] u w [] asked) first ran)
+-- the first task of a kernel may close it, however far it came
+pub may_close : (lines : List ScriptLine) (read : AreRead lines) (stop : Bool) (table : TableId) (v w : TaskValue) (asked : List AskedLine)
+    → v ≡ first_task table → Ran stop (scripted lines) (lines_by 0 lines) [] v w [] asked → IsWhole w
+may_close lines read stop table v w asked first ran =
+    runs_are_whole read.0 lines read.1 stop table w asked
+    (subst (λ (u : TaskValue). Ran stop (scripted lines) (lines_by 0 lines) [] u w [] asked) first ran)
 
-  -- the record of what was closed, with the labels of the closed kernel, is that with the labels of the script
-  module _ (closed : ClosedValue) (asked : List AskedLine) (report : RunRecord) (has : HasRun lines closed asked)
-      (is : report ≡ record (run_record lines closed asked) { labels = closed.labels }) where
-    as_closed : (P : RunRecord → Type 0) → P (run_record lines closed asked) → P report
-    as_closed P p = subst P (sym is)
-        (subst (λ labels. P (record (run_record lines closed asked) { labels = labels })) (sym has.closes.labels_are) p)
+-- the record of what was closed, with the labels of the closed kernel, is that with the labels of the script
+module _ (lines : List ScriptLine) (closed : ClosedValue) (asked : List AskedLine) (report : RunRecord) (has : HasRun lines closed asked)
+    (is : report ≡ record (run_record lines closed asked) { labels = closed.labels }) where
+  as_closed : (P : RunRecord → Type 0) → P (run_record lines closed asked) → P report
+  as_closed P p = subst P (sym is)
+      (subst (λ labels. P (record (run_record lines closed asked) { labels = labels })) (sym has.closes.labels_are) p)
 
-    -- it is legal for the script
-    pub is_legal_for : IsLegalFor lines report
-    is_legal_for = as_closed (IsLegalFor lines)
-        (runs_are_legal_for_scripts read.0 lines read.1 has.table has.task asked has.ran closed has.closes)
+  -- it is legal for the script
+  pub is_legal_for : IsLegalFor lines report
+  is_legal_for = as_closed (IsLegalFor lines)
+      (runs_are_legal_for_scripts has.read.0 lines has.read.1 has.table has.task asked has.ran closed has.closes)
 
-    -- it is plain
-    pub is_plain : IsPlain report
-    is_plain = as_closed IsPlain (runs_are_plain read.0 lines read.1 has.table has.task asked has.ran closed has.closes)
+  -- it is plain
+  pub is_plain : IsPlain report
+  is_plain = as_closed IsPlain (runs_are_plain has.read.0 lines has.read.1 has.table has.task asked has.ran closed has.closes)
 
 -- a worker that stopped, where its task closed the kernel
-pub stop_of_script : (lines : List ScriptLine) (read : IsScript lines) (stop : Option Stop) (why : Stop) (table : TableId) (v w : TaskValue)
+pub stop_of_script : (lines : List ScriptLine) (read : AreRead lines) (stop : Option Stop) (why : Stop) (table : TableId) (v w : TaskValue)
     (asked : List AskedLine) (labels : List (List ℕ)) (closed : ClosedValue) → v ≡ first_task table
     → Ran (is_some stop) (scripted lines) (lines_by 0 lines) [] v w [] asked
     → IfSome stop (IsCause (scripted lines) (lines_by 0 lines) v w) → stop ≡ Some why → labels ≡ table_of lines → Closes labels w closed
@@ -70,10 +70,11 @@ stop_of_script lines read stop why table v w asked labels closed first ran cause
         let orderly = scripts_are_orderly read.0 lines read.1 in absurd (c orderly (orderly 0))
 
 -- a worker that did not stop ran all lines
-pub has_run : (lines : List ScriptLine) (stop : Bool) (table : TableId) (v w : TaskValue) (asked : List AskedLine) (labels : List (List ℕ))
-    (closed : ClosedValue) → v ≡ first_task table → Ran stop (scripted lines) (lines_by 0 lines) [] v w [] asked → stop ≡ false
+pub has_run : (lines : List ScriptLine) (read : AreRead lines) (stop : Bool) (table : TableId) (v w : TaskValue) (asked : List AskedLine)
+    (labels : List (List ℕ)) (closed : ClosedValue) → v ≡ first_task table → Ran stop (scripted lines) (lines_by 0 lines) [] v w [] asked → stop ≡ false
     → labels ≡ table_of lines → Closes labels w closed → HasRun lines closed asked
-has_run lines stop table v w asked labels closed first ran on named closes = record {
+has_run lines read stop table v w asked labels closed first ran on named closes = record {
+  read = read;
   table = table;
   task = w;
   ran =

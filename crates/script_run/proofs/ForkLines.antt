@@ -1,12 +1,12 @@
 -- No line of a task stands before the line that forks it.
-use Rattle.std.proofs.Common.{◌≡◌, ℕ, zero, suc, ◌+◌, ◌<◌, ⊎_elim, List, [], ◌∷◌, ◌++◌, length, refl, sym, ap, subst, ◌∙◌, arith, append_assoc, Some, Ok}
+use Rattle.std.proofs.Common.{◌≡◌, ℕ, zero, suc, ◌+◌, ◌<◌, ⊎_elim, List, [], ◌∷◌, ◌++◌, length, refl, sym, ap, subst, ◌∙◌, arith, append_assoc, Some}
 use Rattle.std.specs.Prelude.{take, Option}
 use Rattle.smack_base.specs.declared.ids.Pid.{Pid}
 use Rattle.world_spec.specs.declared.TaskCall.TheVariants.{Fork}
 use Rattle.world_spec.specs.declared.Call.TheVariants.{Task}
 use Rattle.script_spec.specs.Lines.{ScriptLine, table_of}
 use Rattle.script_spec.specs.Tasks.{task_names}
-use Rattle.script_spec.specs.Grammar.{parse}
+use Rattle.script_text.specs.Scripts.{AreRead}
 use Rattle.replay_spec.specs.Calls.{call_of_line}
 use Rattle.replay_spec.specs.Plain.{IsNameTable}
 use Rattle.plain_records.proofs.GoodLines.{IsGoodLine, AreGoodLines, good_lines}
@@ -60,10 +60,10 @@ module _ (labels names : List (List ℕ)) (table : IsNameTable names) where
       (named_more above x good.0 named) n l pid at forks)
 
 -- no line of a task of a script stands before the line that forks it
-pub forks_come_first : (bytes : List ℕ) (lines : List ScriptLine) → parse bytes ≡ Ok lines → ForksFirst (scripted lines)
-forks_come_first bytes lines read l n pid at forks =
-    let table = names_are_a_table bytes lines read in
-    let named = before_fork (table_of lines) (task_names lines) table [] lines (good_lines bytes lines read) refl
+pub forks_come_first : (lines : List ScriptLine) → AreRead lines → ForksFirst (scripted lines)
+forks_come_first lines read l n pid at forks =
+    let table = names_are_a_table read.0 lines read.1 in
+    let named = before_fork (table_of lines) (task_names lines) table [] lines (good_lines read.0 lines read.1) refl
     (λ x none. elim none [ ]) n l (record { 0 = pid }) at forks in
     let next : n + 1 ≡ suc n = omega arith in
     ap (λ m. lines_by pid (take m lines)) next

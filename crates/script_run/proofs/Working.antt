@@ -16,7 +16,8 @@ use Rattle.world_spec.specs.declared.Reply.TheVariants.{Child}
 use Rattle.record_spec.specs.declared.AskedLine.{AskedLine}
 use Rattle.record_spec.specs.declared.AskedWhat.TheVariants.{Ask, Refused, Wait}
 use Rattle.script_spec.specs.declared.Verb.TheVariants as verbs
-use Rattle.script_spec.specs.Lines.{ScriptLine, word_in, verb_in}
+use Rattle.script_spec.specs.Lines.{ScriptLine, word_in, verb_in, table_of}
+use Rattle.script_spec.specs.Tasks.{task_names}
 use Rattle.replay_spec.specs.Replays.{modes_in}
 use Rattle.legal_spec.specs.Lines.{IsCallOfLine}
 use Rattle.smack_kernel.specs.Histories.{child_of}
@@ -187,6 +188,11 @@ module _ (s : Scripted) (ls : List ScriptLine) (v u w : TaskValue) (x y z : List
 pub go_ends : (s : Scripted) (ls mid : List ScriptLine) (v w : TaskValue) (x y : List AskedLine) → Ran false s ls mid v w x y → mid ≡ []
     → Ran false s ls [] v w x y
 go_ends s ls mid v w x y a e = subst (λ (m : List ScriptLine). Ran false s ls m v w x y) e a
+
+-- a stage with the labels, the tasks and the lines of a script
+pub staged : (lines ls : List ScriptLine) (labels names : List (List ℕ)) → labels ≡ table_of lines → names ≡ task_names lines → ls ≡ lines
+    → ◌≡◌ {A = Scripted} (record { labels = labels; names = names; lines = ls }) (scripted lines)
+staged lines ls labels names a b c = λ i. record { labels = a i; names = b i; lines = c i }
 
 -- all lines of a script task, as a worker is handed them
 pub work_lines : (lines : List ScriptLine) (s : Scripted) (pid n : ℕ) (stop : Bool) (v w : TaskValue) (y : List AskedLine) → s ≡ scripted lines

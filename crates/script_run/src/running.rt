@@ -1,10 +1,9 @@
-ghost use Rattle.std.specs.Prelude.{◌≡◌, ℕ, List, Ok, IfOk, IfErr};
-ghost use Rattle.script_spec.specs.Grammar.{parse};
+ghost use Rattle.std.specs.Prelude.{◌≡◌, IfOk, IfErr};
 ghost use Rattle.script_spec.specs.Lines.{table_of};
 ghost use Rattle.replay_spec.specs.Plain.{IsPlain};
 ghost use Rattle.legal_spec.specs.Fits.{IsLegalFor};
 ghost use Rattle.legal_runs.specs.Laws.{run_record};
-ghost use Rattle.script_run.specs.Closings.{HasRun, IsScript};
+ghost use Rattle.script_run.specs.Closings.{HasRun};
 ghost use Rattle.script_run.specs.declared.making.Stop.TheVariants as stops;
 
 use crate::making::Stop;
@@ -36,7 +35,6 @@ fn close_run<R: Threads + Wait + Sync, G: Gate + Sync>(
     script: &Script<'_>,
     gate: &G,
 ) -> Result<(Closed, AskedBlocks), Stop>
-    requires read { IsScript script.now }
     ensures has_run { IfOk result (λ r. HasRun script.now r.0 r.1) }
     ensures stop { IfErr result (λ stop. stop ≡ stops.Memory) }
 {
@@ -78,14 +76,12 @@ fn report_of(
 /// handed out. However the threads interleave, the record is legal for the script: it is one history
 /// of one world under one journal of rules. It is plain too: its text tells all of it. Its journal
 /// and its history are those of the kernel.
-#[tactic(auto, using(crate::proofs::Closing::is_legal_for, crate::proofs::Closing::is_plain))]
 pub fn run<R: Threads + Wait + Sync, G: Gate + Sync>(
     rt: &R,
     alloc: Global,
     script: &Script<'_>,
     gate: &G,
 ) -> Result<Ran, AllocError>
-    requires read { IsScript script.now }
     ensures legal { IfOk result (λ r. IsLegalFor script.now r.report) }
     ensures plain { IfOk result (λ r. IsPlain r.report) }
     ensures closed { IfOk result (λ r. (r.report.journal ≡ r.closed.journal) × (r.report.history ≡ r.closed.history)) }

