@@ -6,28 +6,28 @@ use Rattle.std.specs.Str.{bytes_eq}
 use Rattle.smack_base.specs.Modes.{modes_of, no_modes}
 use Rattle.smack_base.specs.declared.modes.Modes.{Modes}
 use Rattle.text_spec.specs.declared.BadLine.{BadLine}
-use Rattle.text_spec.specs.declared.LineFault.TheVariants.{Number}
-use Rattle.text_spec.specs.declared.RuleForm.TheVariants.{Long, Short, Change}
+use Rattle.text_spec.specs.declared.LineFault.TheVariants as LineFault
+use Rattle.text_spec.specs.declared.RuleForm.TheVariants as RuleForm
 use Rattle.text_spec.specs.Texts.{Placed, is_feed}
 use Rattle.text_spec.specs.RuleTexts.{RuleWords, unless_fault, listed_fault, rule_answers, subject_answers, all_words, label_answers, only_word, all_good}
 use Rattle.file_spec.specs.declared.RuleFile.{RuleFile}
-use Rattle.file_spec.specs.declared.RuleFile.TheVariants.{Load2, Load, ChangeRule, RevokeSubject, Onlycap, Ambient, Ptrace, Logging}
+use Rattle.file_spec.specs.declared.RuleFile.TheVariants as RuleFile
 use Rattle.file_spec.specs.declared.SelfFile.{SelfFile}
-use Rattle.file_spec.specs.declared.SelfFile.TheVariants.{LoadSelf2, LoadSelf, RelabelSelf}
+use Rattle.file_spec.specs.declared.SelfFile.TheVariants as SelfFile
 use Rattle.file_spec.specs.declared.SmackFile.{SmackFile}
-use Rattle.file_spec.specs.declared.SmackFile.TheVariants.{Rule, Own}
+use Rattle.file_spec.specs.declared.SmackFile.TheVariants as SmackFile
 
 -- the files of rules and settings by name
 abbrev pub rule_files : List (List ℕ × RuleFile)
 rule_files =
-    (codes "load2", Load2)
-    ∷ (codes "load", Load)
-    ∷ (codes "change-rule", ChangeRule)
-    ∷ (codes "revoke-subject", RevokeSubject)
-    ∷ (codes "onlycap", Onlycap)
-    ∷ (codes "ambient", Ambient)
-    ∷ (codes "ptrace", Ptrace)
-    ∷ (codes "logging", Logging)
+    (codes "load2", RuleFile.Load2)
+    ∷ (codes "load", RuleFile.Load)
+    ∷ (codes "change-rule", RuleFile.ChangeRule)
+    ∷ (codes "revoke-subject", RuleFile.RevokeSubject)
+    ∷ (codes "onlycap", RuleFile.Onlycap)
+    ∷ (codes "ambient", RuleFile.Ambient)
+    ∷ (codes "ptrace", RuleFile.Ptrace)
+    ∷ (codes "logging", RuleFile.Logging)
     ∷ []
 
 abbrev pub rule_file : List ℕ → Option RuleFile
@@ -36,9 +36,9 @@ rule_file name = lookup (bytes_eq name) rule_files
 -- the files of the writing task by name
 abbrev pub self_files : List (List ℕ × SelfFile)
 self_files =
-    (codes "load-self2", LoadSelf2)
-    ∷ (codes "load-self", LoadSelf)
-    ∷ (codes "relabel-self", RelabelSelf)
+    (codes "load-self2", SelfFile.LoadSelf2)
+    ∷ (codes "load-self", SelfFile.LoadSelf)
+    ∷ (codes "relabel-self", SelfFile.RelabelSelf)
     ∷ []
 
 abbrev pub self_file : List ℕ → Option SelfFile
@@ -46,18 +46,18 @@ self_file name = lookup (bytes_eq name) self_files
 
 -- the file with a name
 abbrev pub file_of : List ℕ → Option SmackFile
-file_of name = option_or (option_map (λ file. Rule file) (rule_file name)) (option_map (λ file. Own file) (self_file name))
+file_of name = option_or (option_map (λ file. SmackFile.Rule file) (rule_file name)) (option_map (λ file. SmackFile.Own file) (self_file name))
 
 -- the file of rules that takes the same texts
 abbrev pub same_texts : SelfFile → RuleFile
-same_texts LoadSelf2 = Load2
-same_texts LoadSelf = Load
-same_texts RelabelSelf = Onlycap
+same_texts SelfFile.LoadSelf2 = RuleFile.Load2
+same_texts SelfFile.LoadSelf = RuleFile.Load
+same_texts SelfFile.RelabelSelf = RuleFile.Onlycap
 
 -- the file of rules by whose form a file's text is read
 abbrev pub read_as : SmackFile → RuleFile
-read_as (Rule file) = file
-read_as (Own file) = same_texts file
+read_as (SmackFile.Rule file) = file
+read_as (SmackFile.Own file) = same_texts file
 
 -- a write to rules or settings whose labels are still words of its text
 pub data NamedWrite : Type 0 where
@@ -106,7 +106,7 @@ with_word read (Err bad) = Err bad
 with_word read (Ok p) = read p
 
 abbrev pub digit_or_fault : List ℕ → Option ℕ → Placed → Result ℕ BadLine
-digit_or_fault text None p = Err (record { line = line_of text p.at; fault = Number })
+digit_or_fault text None p = Err (record { line = line_of text p.at; fault = LineFault.Number })
 digit_or_fault text (Some n) p = Ok n
 
 -- the label that a text of one word is
@@ -123,14 +123,14 @@ on_good f (Err bad) = Err bad
 
 -- what a text is for a file, write by write, up to its first bad line
 abbrev pub write_answers : RuleFile → List ℕ → List (Result NamedWrite BadLine)
-write_answers Load2 text = map (on_good set_write) (rule_answers Long text)
-write_answers Load text = map (on_good set_write) (rule_answers Short text)
-write_answers ChangeRule text = map (on_good change_write) (rule_answers Change text)
-write_answers RevokeSubject text = map (on_good NamedRevoke) (subject_answers text)
-write_answers Onlycap text = Ok NamedClear ∷ map (on_good NamedAdd) (label_answers (all_words text))
-write_answers Ambient text = on_good NamedAmbient (label_in text) ∷ []
-write_answers Ptrace text = on_good NamedPtrace (number_in 2 text) ∷ []
-write_answers Logging text = on_good NamedLogging (number_in 3 text) ∷ []
+write_answers RuleFile.Load2 text = map (on_good set_write) (rule_answers RuleForm.Long text)
+write_answers RuleFile.Load text = map (on_good set_write) (rule_answers RuleForm.Short text)
+write_answers RuleFile.ChangeRule text = map (on_good change_write) (rule_answers RuleForm.Change text)
+write_answers RuleFile.RevokeSubject text = map (on_good NamedRevoke) (subject_answers text)
+write_answers RuleFile.Onlycap text = Ok NamedClear ∷ map (on_good NamedAdd) (label_answers (all_words text))
+write_answers RuleFile.Ambient text = on_good NamedAmbient (label_in text) ∷ []
+write_answers RuleFile.Ptrace text = on_good NamedPtrace (number_in 2 text) ∷ []
+write_answers RuleFile.Logging text = on_good NamedLogging (number_in 3 text) ∷ []
 
 -- the writes of a text, or its first bad line
 abbrev pub writes_of_text : RuleFile → List ℕ → Result (List NamedWrite) BadLine
@@ -153,5 +153,5 @@ rows_of_writes (Ok writes) = length writes + 1
 -- a text of rules and settings takes rows; a call on the writing task takes none
 abbrev pub rows_of_text : Option SmackFile → List ℕ → ℕ
 rows_of_text None text = 0
-rows_of_text (Some (Rule file)) text = rows_of_writes (writes_of_text file text)
-rows_of_text (Some (Own file)) text = 0
+rows_of_text (Some (SmackFile.Rule file)) text = rows_of_writes (writes_of_text file text)
+rows_of_text (Some (SmackFile.Own file)) text = 0

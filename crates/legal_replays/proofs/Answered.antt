@@ -1,17 +1,17 @@
 use Rattle.std.proofs.Common.{◌≡◌, ◌≤◌, ℕ, ◌+◌, true, inl, inr, List, length, sym, ap, subst, ◌∙◌, arith}
-use Rattle.smack_base.specs.declared.cap.Cap.TheVariants.{MacAdmin}
+use Rattle.smack_base.specs.declared.cap.Cap.TheVariants as Cap
 use Rattle.rules_spec.specs.declared.Batch.{Batch}
 use Rattle.rules_spec.specs.Rulings.{ruling}
 use Rattle.rules_spec.specs.Cases.{verdict_of_cases}
 use Rattle.rules_spec.specs.Creds.{is_effective}
 use Rattle.file_spec.specs.declared.Refusal.{Refusal}
-use Rattle.file_spec.specs.declared.Refusal.TheVariants.{NoSuchFile, TooLong, BadLine, UnknownLabel, NotPrivileged, JournalFull}
+use Rattle.file_spec.specs.declared.Refusal.TheVariants as Refusal
 use Rattle.script_spec.specs.Lines.{ScriptLine}
 use Rattle.world_spec.specs.Worlds.{creds_of}
 use Rattle.world_spec.specs.Replays.{version_of, cred_at}
 use Rattle.record_spec.specs.declared.AskedLine.{AskedLine}
 use Rattle.record_spec.specs.declared.AskedWhat.{AskedWhat}
-use Rattle.record_spec.specs.declared.AskedWhat.TheVariants.{Ask, Refused, Wait}
+use Rattle.record_spec.specs.declared.AskedWhat.TheVariants as AskedWhat
 use Rattle.replay_spec.specs.Replays.{Run}
 use Rattle.legal_spec.specs.Calls.{Stands, batch as batch_call, asked as asked_call}
 use Rattle.legal_spec.specs.Legal.{ArePrivileged, IsRefused, IsSo, AreAnswered, rows_of}
@@ -26,15 +26,15 @@ use Rattle.legal_replays.proofs.Creds.{cred_kept, front_kept, version_kept, cred
 module _ (labels names : List (List ℕ)) (above : List ScriptLine) (run after : Run) (l : ScriptLine) (replays : Replays labels names above run) (good : IsGoodLine above l) (in_step : IsInStep above run.world.tasks) (next : IsNext labels names run l after) where
   -- whether a task has CAP_MAC_ADMIN at an earlier call, in an earlier version, is as before
   may_kept : (k q m n : ℕ) → IsWithin above run k q m → n ≤ length run.journal
-      → is_effective (cred_at after.journal after.history k q) MacAdmin (version_of after.journal n)
-      ≡ is_effective (cred_at run.journal run.history k q) MacAdmin (version_of run.journal n)
+      → is_effective (cred_at after.journal after.history k q) Cap.MacAdmin (version_of after.journal n)
+      ≡ is_effective (cred_at run.journal run.history k q) Cap.MacAdmin (version_of run.journal n)
   may_kept k q m n within earlier =
-      ap (λ c. is_effective c MacAdmin (version_of after.journal n)) (cred_kept labels names above run after l replays good in_step next k q m within)
-      ∙ ap (λ v. is_effective (cred_at run.journal run.history k q) MacAdmin v) (version_kept labels names run after l next n earlier)
+      ap (λ c. is_effective c Cap.MacAdmin (version_of after.journal n)) (cred_kept labels names above run after l replays good in_step next k q m within)
+      ∙ ap (λ v. is_effective (cred_at run.journal run.history k q) Cap.MacAdmin v) (version_kept labels names run after l next n earlier)
 
   old_batch : (i : ℕ) (b : Batch) → Stands run.journal i b
-      → is_effective (cred_at run.journal run.history b.task b.seq) MacAdmin (version_of run.journal i) ≡ true
-      → is_effective (cred_at after.journal after.history b.task b.seq) MacAdmin (version_of after.journal i) ≡ true
+      → is_effective (cred_at run.journal run.history b.task b.seq) Cap.MacAdmin (version_of run.journal i) ≡ true
+      → is_effective (cred_at after.journal after.history b.task b.seq) Cap.MacAdmin (version_of after.journal i) ≡ true
   old_batch i b at was =
       let within = calls_within labels names above run replays b.task b.seq i (i + 1) (batch_call i b at) in
       may_kept b.task b.seq (i + 1) i within (omega (arith, within.version)) ∙ was
@@ -42,20 +42,20 @@ module _ (labels names : List (List ℕ)) (above : List ScriptLine) (run after :
   -- an earlier line is still so
   refused_kept : (a : AskedLine) (file : List ℕ) (fault : Refusal) → IsWithin above run a.task a.seq a.version
       → IsRefused (record_of labels names run) a file fault → IsRefused (record_of labels names after) a file fault
-  refused_kept a file NoSuchFile within so = tt
-  refused_kept a file TooLong within so = tt
-  refused_kept a file (BadLine bad) within so = tt
-  refused_kept a file (UnknownLabel line) within so = tt
-  refused_kept a file NotPrivileged within so = (so.0, may_kept a.task a.seq a.version a.version within within.version ∙ so.1)
-  refused_kept a file (JournalFull rows) within so =
+  refused_kept a file Refusal.NoSuchFile within so = tt
+  refused_kept a file Refusal.TooLong within so = tt
+  refused_kept a file (Refusal.BadLine bad) within so = tt
+  refused_kept a file (Refusal.UnknownLabel line) within so = tt
+  refused_kept a file Refusal.NotPrivileged within so = (so.0, may_kept a.task a.seq a.version a.version within within.version ∙ so.1)
+  refused_kept a file (Refusal.JournalFull rows) within so =
       (so.0, so.1 ∙ ap rows_of (sym (front_kept labels names run after l next a.version within.version)))
 
   so_kept : (a : AskedLine) (what : AskedWhat) → IsWithin above run a.task a.seq a.version
       → IsSo (record_of labels names run) a what → IsSo (record_of labels names after) a what
-  so_kept a (Ask v) within so =
+  so_kept a (AskedWhat.Ask v) within so =
       so ∙ ap (λ version. verdict_of_cases version v.subject v.object v.modes) (sym (version_kept labels names run after l next a.version within.version))
-  so_kept a (Refused file fault) within so = refused_kept a file fault within so
-  so_kept a (Wait pid) within so = tt
+  so_kept a (AskedWhat.Refused file fault) within so = refused_kept a file fault within so
+  so_kept a (AskedWhat.Wait pid) within so = tt
 
   old_line : (a : AskedLine) (i : ℕ) → Stands run.asked i a
       → (a.version ≤ length run.journal) × IsSo (record_of labels names run) a a.what
@@ -68,22 +68,22 @@ module _ (labels names : List (List ℕ)) (above : List ScriptLine) (run : Run) 
   -- a new line is so
   new_refused : (what : AskedWhat) (file : List ℕ) (fault : Refusal) → IsRefusedNow run l file fault
       → IsRefused (record_of labels names run) (asked_by run l what) file fault
-  new_refused what file NoSuchFile so = tt
-  new_refused what file TooLong so = tt
-  new_refused what file (BadLine bad) so = tt
-  new_refused what file (UnknownLabel line) so = tt
-  new_refused what file NotPrivileged so = (
+  new_refused what file Refusal.NoSuchFile so = tt
+  new_refused what file Refusal.TooLong so = tt
+  new_refused what file (Refusal.BadLine bad) so = tt
+  new_refused what file (Refusal.UnknownLabel line) so = tt
+  new_refused what file Refusal.NotPrivileged so = (
     so.0,
-    ap (λ c. is_effective c MacAdmin (version_of run.journal (length run.journal)))
+    ap (λ c. is_effective c Cap.MacAdmin (version_of run.journal (length run.journal)))
         (cred_now labels names above run l replays good run.journal (run_stands labels names above run replays))
-        ∙ ap (λ v. is_effective (creds_of run.world l.task) MacAdmin v) (newest run.journal) ∙ so.1,
+        ∙ ap (λ v. is_effective (creds_of run.world l.task) Cap.MacAdmin v) (newest run.journal) ∙ so.1,
   )
-  new_refused what file (JournalFull rows) so = absurd so
+  new_refused what file (Refusal.JournalFull rows) so = absurd so
 
   new_so : (whole what : AskedWhat) → IsSoNow run l what → IsSo (record_of labels names run) (asked_by run l whole) what
-  new_so whole (Ask v) so = so ∙ ap (λ version. verdict_of_cases version v.subject v.object v.modes) (sym (newest run.journal))
-  new_so whole (Refused file fault) so = new_refused whole file fault so
-  new_so whole (Wait pid) so = tt
+  new_so whole (AskedWhat.Ask v) so = so ∙ ap (λ version. verdict_of_cases version v.subject v.object v.modes) (sym (newest run.journal))
+  new_so whole (AskedWhat.Refused file fault) so = new_refused whole file fault so
+  new_so whole (AskedWhat.Wait pid) so = tt
 
 module _ (labels names : List (List ℕ)) where
   -- each batch is privileged
@@ -102,9 +102,9 @@ module _ (labels names : List (List ℕ)) where
                 let cred = cred_now labels names above run l replays good after.journal stands in
                 let version : version_of after.journal i ≡ ruling run.journal =
                 version_kept labels names run after l next i (omega (arith, new.0)) ∙ ap (version_of run.journal) new.0 ∙ newest run.journal in
-                ap (λ x. is_effective (cred_at after.journal after.history x.task x.seq) MacAdmin (version_of after.journal i)) new.1
-                ∙ ap (λ c. is_effective c MacAdmin (version_of after.journal i)) cred
-                ∙ ap (λ v. is_effective (creds_of run.world l.task) MacAdmin v) version ∙ may
+                ap (λ x. is_effective (cred_at after.journal after.history x.task x.seq) Cap.MacAdmin (version_of after.journal i)) new.1
+                ∙ ap (λ c. is_effective c Cap.MacAdmin (version_of after.journal i)) cred
+                ∙ ap (λ v. is_effective (creds_of run.world l.task) Cap.MacAdmin v) version ∙ may
           ]
       by after (entry call of) was i b at = old_batch labels names above run after l replays good in_step (entry call of) i b at (was i b at)
       by after (asked what of so) was i b at = old_batch labels names above run after l replays good in_step (asked what of so) i b at (was i b at)

@@ -4,16 +4,16 @@ use Rattle.std.proofs.lemmas.Bool.{ne_eqb}
 use Rattle.smack_base.specs.declared.ids.Pid.{Pid}
 use Rattle.rules_spec.specs.declared.Verdict.{Verdict}
 use Rattle.rules_spec.specs.Rulings.{Ruling}
-use Rattle.world_spec.specs.declared.Why.TheVariants.{Exists, NoSuchTask, TasksFull}
+use Rattle.world_spec.specs.declared.Why.TheVariants as Why
 use Rattle.world_spec.specs.declared.Question.{Question}
 use Rattle.world_spec.specs.declared.Part.{Part}
-use Rattle.world_spec.specs.declared.Part.TheVariants.{Refuses, Asks}
-use Rattle.world_spec.specs.declared.TaskCall.TheVariants.{Fork, Exit, Relabel, DropCap, SelfRules, Relabels, Kill, Take, TraceRead, TraceAttach}
-use Rattle.world_spec.specs.declared.TreeCall.TheVariants.{Create, Unlink, ListDir}
+use Rattle.world_spec.specs.declared.Part.TheVariants as Part
+use Rattle.world_spec.specs.declared.TaskCall.TheVariants as TaskCall
+use Rattle.world_spec.specs.declared.TreeCall.TheVariants as TreeCall
 use Rattle.world_spec.specs.declared.Call.{Call}
-use Rattle.world_spec.specs.declared.Call.TheVariants.{Task, Tree}
+use Rattle.world_spec.specs.declared.Call.TheVariants as Call
 use Rattle.world_spec.specs.declared.Reply.{Reply}
-use Rattle.world_spec.specs.declared.Reply.TheVariants.{Child, Denied, Refused}
+use Rattle.world_spec.specs.declared.Reply.TheVariants as Reply
 use Rattle.world_spec.specs.Signals.{least_signal}
 use Rattle.world_spec.specs.Worlds.{World, was_made, is_live, pending_of, most_tasks}
 use Rattle.world_spec.specs.Questions.{asks}
@@ -27,18 +27,18 @@ makes_at_stop k (Some reply) = makes k reply
 -- a call that is refused or denied makes no task
 none_at_stop : (k : ℕ) (verdict : Question → Verdict) (parts : List Part) → makes_at_stop k (went verdict parts).stop ≡ false
 none_at_stop k verdict [] = refl
-none_at_stop k verdict (Refuses holds why ∷ more) = by holds (none_at_stop k verdict more)
+none_at_stop k verdict (Part.Refuses holds why ∷ more) = by holds (none_at_stop k verdict more)
   where
     by : (holds : Bool) → makes_at_stop k (went verdict more).stop ≡ false
-        → makes_at_stop k (if◌then◌else◌ {A = Went} holds (record { checks = []; stop = Some (Refused why) }) (went verdict more)).stop ≡ false
+        → makes_at_stop k (if◌then◌else◌ {A = Went} holds (record { checks = []; stop = Some (Reply.Refused why) }) (went verdict more)).stop ≡ false
     by true rest = refl
     by false rest = rest
-none_at_stop k verdict (Asks question ∷ more) = by (verdict question).allowed (none_at_stop k verdict more)
+none_at_stop k verdict (Part.Asks question ∷ more) = by (verdict question).allowed (none_at_stop k verdict more)
   where
     by : (allowed : Bool) → makes_at_stop k (went verdict more).stop ≡ false
         → makes_at_stop k (if◌then◌else◌ {A = Went} allowed
         (record { checks = verdict question ∷ (went verdict more).checks; stop = (went verdict more).stop })
-        (record { checks = verdict question ∷ []; stop = Some (Denied (verdict question).case) })).stop ≡ false
+        (record { checks = verdict question ∷ []; stop = Some (Reply.Denied (verdict question).case) })).stop ≡ false
     by true rest = rest
     by false rest = refl
 
@@ -48,19 +48,19 @@ signal_makes_none k (Some sig) = refl
 
 -- a call makes no task that is there
 effect_makes : (w : World) (version : Ruling) (task k : ℕ) (call : Call) → k < length w.tasks → makes k (effect w version task call).reply ≡ false
-effect_makes w version task k (Task (Fork pid)) there = ne_eqb (length w.tasks) k (λ same. omega (arith, there, same))
-effect_makes w version task k (Task Exit) there = refl
-effect_makes w version task k (Task (Relabel l)) there = refl
-effect_makes w version task k (Task (DropCap cap)) there = refl
-effect_makes w version task k (Task (SelfRules rules)) there = refl
-effect_makes w version task k (Task (Relabels labels)) there = refl
-effect_makes w version task k (Task (Kill pid sig)) there = refl
-effect_makes w version task k (Task Take) there = signal_makes_none k (least_signal (pending_of w task))
-effect_makes w version task k (Task (TraceRead pid)) there = refl
-effect_makes w version task k (Task (TraceAttach pid)) there = refl
-effect_makes w version task k (Tree (Create path)) there = refl
-effect_makes w version task k (Tree (Unlink path)) there = refl
-effect_makes w version task k (Tree (ListDir path at)) there = refl
+effect_makes w version task k (Call.Task (TaskCall.Fork pid)) there = ne_eqb (length w.tasks) k (λ same. omega (arith, there, same))
+effect_makes w version task k (Call.Task TaskCall.Exit) there = refl
+effect_makes w version task k (Call.Task (TaskCall.Relabel l)) there = refl
+effect_makes w version task k (Call.Task (TaskCall.DropCap cap)) there = refl
+effect_makes w version task k (Call.Task (TaskCall.SelfRules rules)) there = refl
+effect_makes w version task k (Call.Task (TaskCall.Relabels labels)) there = refl
+effect_makes w version task k (Call.Task (TaskCall.Kill pid sig)) there = refl
+effect_makes w version task k (Call.Task TaskCall.Take) there = signal_makes_none k (least_signal (pending_of w task))
+effect_makes w version task k (Call.Task (TaskCall.TraceRead pid)) there = refl
+effect_makes w version task k (Call.Task (TaskCall.TraceAttach pid)) there = refl
+effect_makes w version task k (Call.Tree (TreeCall.Create path)) there = refl
+effect_makes w version task k (Call.Tree (TreeCall.Unlink path)) there = refl
+effect_makes w version task k (Call.Tree (TreeCall.ListDir path at)) there = refl
 
 stepped_makes : (w : World) (k : ℕ) (e : Effect) (checks : List Verdict) (stop : Option Reply) → makes_at_stop k stop ≡ false
     → makes k e.reply ≡ false → makes k (stepped w e checks stop).reply ≡ false
@@ -73,19 +73,19 @@ step_makes w version task k call there =
     stepped_makes w k (effect w version task call) through.checks through.stop (none_at_stop k (verdict_of w version task) (asks w version task call))
     (effect_makes w version task k call there)
 
-same_number : (a b : ℕ) → Child a ≡ Child b → a ≡ b
+same_number : (a b : ℕ) → Reply.Child a ≡ Reply.Child b → a ≡ b
 same_number a b is = cc
 
 -- a fork that makes a task gives it the next number
-pub fork_number : (w : World) (version : Ruling) (task : ℕ) (pid : Pid) (k : ℕ) → (step w version task (Task (Fork pid))).reply ≡ Child k
+pub fork_number : (w : World) (version : Ruling) (task : ℕ) (pid : Pid) (k : ℕ) → (step w version task (Call.Task (TaskCall.Fork pid))).reply ≡ Reply.Child k
     → k ≡ length w.tasks
 fork_number w version task pid k =
     by (not (is_live w.tasks task)) (was_made w.tasks pid) (nat_le most_tasks (length w.tasks))
   where
     by : (dead made full : Bool)
-        → (stepped w (effect w version task (Task (Fork pid)))
-        (went (verdict_of w version task) (Refuses dead NoSuchTask ∷ Refuses made Exists ∷ Refuses full (TasksFull most_tasks) ∷ [])).checks
-        (went (verdict_of w version task) (Refuses dead NoSuchTask ∷ Refuses made Exists ∷ Refuses full (TasksFull most_tasks) ∷ [])).stop).reply ≡ Child k
+        → (stepped w (effect w version task (Call.Task (TaskCall.Fork pid)))
+        (went (verdict_of w version task) (Part.Refuses dead Why.NoSuchTask ∷ Part.Refuses made Why.Exists ∷ Part.Refuses full (Why.TasksFull most_tasks) ∷ [])).checks
+        (went (verdict_of w version task) (Part.Refuses dead Why.NoSuchTask ∷ Part.Refuses made Why.Exists ∷ Part.Refuses full (Why.TasksFull most_tasks) ∷ [])).stop).reply ≡ Reply.Child k
         → k ≡ length w.tasks
     by true made full is = cc
     by false true full is = cc
@@ -94,5 +94,5 @@ fork_number w version task pid k =
 
 -- it does make one, where the caller is live, the pid is new, and there is room
 pub fork_replies : (w : World) (version : Ruling) (task : ℕ) (pid : Pid) → is_live w.tasks task ≡ true → was_made w.tasks pid ≡ false
-    → nat_le most_tasks (length w.tasks) ≡ false → (step w version task (Task (Fork pid))).reply ≡ Child (length w.tasks)
+    → nat_le most_tasks (length w.tasks) ≡ false → (step w version task (Call.Task (TaskCall.Fork pid))).reply ≡ Reply.Child (length w.tasks)
 fork_replies w version task pid live new room = rw (live, new, room) refl

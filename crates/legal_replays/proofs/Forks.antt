@@ -3,19 +3,19 @@ use Rattle.std.proofs.lemmas.Bool.{cases_Bool, eqb-true, lt-leb}
 use Rattle.smack_base.specs.declared.ids.Pid.{Pid}
 use Rattle.rules_spec.specs.Rulings.{ruling}
 use Rattle.script_spec.specs.declared.Verb.{Verb}
-use Rattle.script_spec.specs.declared.Verb.TheVariants.{Write, Ask as AskVerb, Wait as WaitVerb, Task as TaskVerbOf, Tree}
-use Rattle.script_spec.specs.declared.TaskVerb.TheVariants.{Fork as ForkVerb, Exit, Relabel, Drop, Kill, Take, Trace}
+use Rattle.script_spec.specs.declared.Verb.TheVariants as Verb
+use Rattle.script_spec.specs.declared.TaskVerb.TheVariants as TaskVerb
 use Rattle.script_spec.specs.Lines.{ScriptLine, word_in, verb_in}
 use Rattle.script_spec.specs.Tasks.{change_by, change_of, is_fork, has_exit, forked_name, parents_in, task_names}
-use Rattle.world_spec.specs.declared.TaskCall.TheVariants.{Fork}
+use Rattle.world_spec.specs.declared.TaskCall.TheVariants as TaskCall
 use Rattle.world_spec.specs.declared.Call.{Call}
-use Rattle.world_spec.specs.declared.Call.TheVariants.{Task}
-use Rattle.world_spec.specs.declared.Reply.TheVariants.{Child}
+use Rattle.world_spec.specs.declared.Call.TheVariants as Call
+use Rattle.world_spec.specs.declared.Reply.TheVariants as Reply
 use Rattle.world_spec.specs.declared.Entry.{Entry}
 use Rattle.world_spec.specs.Worlds.{most_tasks}
 use Rattle.world_spec.specs.Steps.{step}
 use Rattle.record_spec.specs.declared.AskedWhat.{AskedWhat}
-use Rattle.record_spec.specs.declared.AskedWhat.TheVariants.{Ask, Refused, Wait}
+use Rattle.record_spec.specs.declared.AskedWhat.TheVariants as AskedWhat
 use Rattle.replay_spec.specs.Calls.{pid_in, of_one, call_by, call_of_line}
 use Rattle.replay_spec.specs.Plain.{IsNameTable}
 use Rattle.replay_spec.specs.Replays.{Run}
@@ -55,33 +55,33 @@ verb_forks_nothing l verb is nothing = ap (λ v. is_fork (change_by v l)) is ∙
 
 asked_forks_nothing : (labels names : List (List ℕ)) (l : ScriptLine) (what : AskedWhat) → IsAskedOfLine labels names l what
     → is_fork (change_of l) ≡ false
-asked_forks_nothing labels names l (Ask v) of = verb_forks_nothing l AskVerb of.0 refl
-asked_forks_nothing labels names l (Refused file fault) of = verb_forks_nothing l Write of.0 refl
-asked_forks_nothing labels names l (Wait pid) of = verb_forks_nothing l WaitVerb of.0 refl
+asked_forks_nothing labels names l (AskedWhat.Ask v) of = verb_forks_nothing l Verb.Ask of.0 refl
+asked_forks_nothing labels names l (AskedWhat.Refused file fault) of = verb_forks_nothing l Verb.Write of.0 refl
+asked_forks_nothing labels names l (AskedWhat.Wait pid) of = verb_forks_nothing l Verb.Wait of.0 refl
 
-same_number : (a b : ℕ) → Child a ≡ Child b → a ≡ b
+same_number : (a b : ℕ) → Reply.Child a ≡ Reply.Child b → a ≡ b
 same_number a b is = cc
 
-same_pid : (a b : Pid) → Task (Fork a) ≡ Task (Fork b) → a ≡ b
+same_pid : (a b : Pid) → Call.Task (TaskCall.Fork a) ≡ Call.Task (TaskCall.Fork b) → a ≡ b
 same_pid a b is = cc
 
 same_parent : (a b : ℕ) → ◌≡◌ {A = Option ℕ} (Some a) (Some b) → a ≡ b
 same_parent a b is = cc
 
 -- the verb of a line that forks
-pub forks_by : (l : ScriptLine) (verb : Option Verb) → verb_in l ≡ verb → is_fork (change_by verb l) ≡ true → verb_in l ≡ Some (TaskVerbOf ForkVerb)
+pub forks_by : (l : ScriptLine) (verb : Option Verb) → verb_in l ≡ verb → is_fork (change_by verb l) ≡ true → verb_in l ≡ Some (Verb.Task TaskVerb.Fork)
 forks_by l None is forks = cc
-forks_by l (Some Write) is forks = cc
-forks_by l (Some AskVerb) is forks = cc
-forks_by l (Some WaitVerb) is forks = cc
-forks_by l (Some (TaskVerbOf ForkVerb)) is forks = is
-forks_by l (Some (TaskVerbOf Exit)) is forks = cc
-forks_by l (Some (TaskVerbOf Relabel)) is forks = cc
-forks_by l (Some (TaskVerbOf Drop)) is forks = cc
-forks_by l (Some (TaskVerbOf Kill)) is forks = cc
-forks_by l (Some (TaskVerbOf Take)) is forks = cc
-forks_by l (Some (TaskVerbOf Trace)) is forks = cc
-forks_by l (Some (Tree verb)) is forks = cc
+forks_by l (Some Verb.Write) is forks = cc
+forks_by l (Some Verb.Ask) is forks = cc
+forks_by l (Some Verb.Wait) is forks = cc
+forks_by l (Some (Verb.Task TaskVerb.Fork)) is forks = is
+forks_by l (Some (Verb.Task TaskVerb.Exit)) is forks = cc
+forks_by l (Some (Verb.Task TaskVerb.Relabel)) is forks = cc
+forks_by l (Some (Verb.Task TaskVerb.Drop)) is forks = cc
+forks_by l (Some (Verb.Task TaskVerb.Kill)) is forks = cc
+forks_by l (Some (Verb.Task TaskVerb.Take)) is forks = cc
+forks_by l (Some (Verb.Task TaskVerb.Trace)) is forks = cc
+forks_by l (Some (Verb.Tree verb)) is forks = cc
 
 same_call : (a b : Call) → ◌≡◌ {A = Option Call} (Some a) (Some b) → a ≡ b
 same_call a b is = cc
@@ -114,7 +114,7 @@ module _ (above : List ScriptLine) (l : ScriptLine) (nothing : is_fork (change_o
   }
 
   -- and so does an entry that is no fork
-  quiet_entry : (history : List Entry) (e : Entry) → ((pid : Pid) → e.call ≡ Task (Fork pid) → ⊥) → AreForked above history
+  quiet_entry : (history : List Entry) (e : Entry) → ((pid : Pid) → e.call ≡ Call.Task (TaskCall.Fork pid) → ⊥) → AreForked above history
       → AreForked (above ++ l ∷ []) (history ++ e ∷ [])
   quiet_entry history e quiet forked =
       let same = still_forked history forked in
@@ -129,7 +129,7 @@ module _ (above : List ScriptLine) (l : ScriptLine) (nothing : is_fork (change_o
       }
 
 -- a line that forks a task
-module _ (labels names : List (List ℕ)) (above : List ScriptLine) (l : ScriptLine) (run : Run) (good : IsGoodLine above l) (in_step : IsInStep above run.world.tasks) (table : IsNameTable names) (rest : List (List ℕ)) (whole : names ≡ task_names (above ++ l ∷ []) ++ rest) (verb : verb_in l ≡ Some (TaskVerbOf ForkVerb)) where
+module _ (labels names : List (List ℕ)) (above : List ScriptLine) (l : ScriptLine) (run : Run) (good : IsGoodLine above l) (in_step : IsInStep above run.world.tasks) (table : IsNameTable names) (rest : List (List ℕ)) (whole : names ≡ task_names (above ++ l ∷ []) ++ rest) (verb : verb_in l ≡ Some (Verb.Task TaskVerb.Fork)) where
   abbrev new_pid : Pid
   new_pid = record { 0 = length (task_names above) }
 
@@ -145,7 +145,7 @@ module _ (labels names : List (List ℕ)) (above : List ScriptLine) (l : ScriptL
       next_pid names (task_names above) (word_in 1 l) rest
       (whole ∙ ap (λ ns. ns ++ rest) names_with ∙ append_assoc (task_names above) (word_in 1 l ∷ []) rest) table
 
-  replies : (step run.world (ruling run.journal) l.task (Task (Fork new_pid))).reply ≡ Child (length run.world.tasks)
+  replies : (step run.world (ruling run.journal) l.task (Call.Task (TaskCall.Fork new_pid))).reply ≡ Reply.Child (length run.world.tasks)
   replies =
       let zero_more : 0 + l.task ≡ l.task = omega arith in
       let few : length (task_names above) < most_tasks =
@@ -162,10 +162,10 @@ module _ (labels names : List (List ℕ)) (above : List ScriptLine) (l : ScriptL
   new_number = omega (arith, in_step.many, parents_many above)
 
   -- the entry of the fork is known
-  known_fork : (x : Entry) (call : Call) → call ≡ Task (Fork new_pid) → x ≡ entry_by run l call → (number : ℕ) (pid : Pid)
+  known_fork : (x : Entry) (call : Call) → call ≡ Call.Task (TaskCall.Fork new_pid) → x ≡ entry_by run l call → (number : ℕ) (pid : Pid)
       → IsForkOf x number pid → IsKnownFork (above ++ l ∷ []) x number pid
   known_fork x call is new number pid fork =
-      let replied : x.reply ≡ Child (length run.world.tasks) =
+      let replied : x.reply ≡ Reply.Child (length run.world.tasks) =
       ap (λ y. y.reply) new ∙ ap (λ c. (step run.world (ruling run.journal) l.task c).reply) is ∙ replies in
       let numbered : number ≡ length run.world.tasks = same_number number (length run.world.tasks) (sym fork.1 ∙ replied) in
       let named : pid ≡ new_pid = same_pid pid new_pid (sym fork.0 ∙ ap (λ y. y.call) new ∙ is) in
@@ -177,20 +177,20 @@ module _ (labels names : List (List ℕ)) (above : List ScriptLine) (l : ScriptL
             ∙ newest_parent l.task (parents_in above) ∙ ap (λ k. Some k) (sym (ap (λ y. y.task) new));
       }
 
-  new_fork : (call : Call) → call ≡ Task (Fork new_pid) → (task : ℕ) → task ≡ length (parents_in above) + 1
+  new_fork : (call : Call) → call ≡ Call.Task (TaskCall.Fork new_pid) → (task : ℕ) → task ≡ length (parents_in above) + 1
       → HasFork (run.history ++ entry_by run l call ∷ []) task l.task
   new_fork call is task next = record {
     place = length run.history;
     fork = entry_by run l call;
     there = stands_last run.history (entry_by run l call);
     is = (
-      is ∙ ap (λ n. Task (Fork (record { 0 = n }))) (omega (arith, next, parents_many above)),
-      ap (λ c. (step run.world (ruling run.journal) l.task c).reply) is ∙ replies ∙ ap (λ n. Child n) (new_number ∙ sym next),
+      is ∙ ap (λ n. Call.Task (TaskCall.Fork (record { 0 = n }))) (omega (arith, next, parents_many above)),
+      ap (λ c. (step run.world (ruling run.journal) l.task c).reply) is ∙ replies ∙ ap (λ n. Reply.Child n) (new_number ∙ sym next),
     );
     own = refl;
   }
 
-  there_with : (call : Call) → call ≡ Task (Fork new_pid) → AreForked above run.history → (task parent : ℕ)
+  there_with : (call : Call) → call ≡ Call.Task (TaskCall.Fork new_pid) → AreForked above run.history → (task parent : ℕ)
       → parent_of (l.task ∷ parents_in above) task ≡ Some parent → HasFork (run.history ++ entry_by run l call ∷ []) task parent
   there_with call is forked task parent is_parent = by (task == length (l.task ∷ parents_in above)) refl is_parent
     where
@@ -202,7 +202,7 @@ module _ (labels names : List (List ℕ)) (above : List ScriptLine) (l : ScriptL
           subst (λ (k : ℕ). HasFork (run.history ++ entry_by run l call ∷ []) task k) (same_parent l.task parent is_parent) (new_fork call is task next)
       by false here is_parent = longer_fork run.history (entry_by run l call) task parent (forked.there task parent is_parent)
 
-  pub fork_entry : (call : Call) → call ≡ Task (Fork new_pid) → AreForked above run.history
+  pub fork_entry : (call : Call) → call ≡ Call.Task (TaskCall.Fork new_pid) → AreForked above run.history
       → AreForked (above ++ l ∷ []) (run.history ++ entry_by run l call ∷ [])
   fork_entry call is forked = record {
     known = λ i x number pid at fork.
@@ -231,9 +231,9 @@ module _ (labels names : List (List ℕ)) (table : IsNameTable names) where
         | inl forks ↦
             let verb = forks_by l (verb_in l) refl forks in
             let pid = pid_is_next labels names above l run good in_step table rest whole verb in
-            let given : call ≡ Task (Fork (record { 0 = length (task_names above) })) =
-            same_call call (Task (Fork (record { 0 = length (task_names above) })))
-            (sym of ∙ ap (call_by labels names l) verb ∙ ap (λ (p : Option Pid). of_one (of_one p (λ x. Fork x)) (λ c. Task c)) pid) in
+            let given : call ≡ Call.Task (TaskCall.Fork (record { 0 = length (task_names above) })) =
+            same_call call (Call.Task (TaskCall.Fork (record { 0 = length (task_names above) })))
+            (sym of ∙ ap (call_by labels names l) verb ∙ ap (λ (p : Option Pid). of_one (of_one p (λ x. TaskCall.Fork x)) (λ c. Call.Task c)) pid) in
             fork_entry labels names above l run good in_step table rest whole verb call given forked
         | inr nothing ↦
             quiet_entry above l nothing run.history (entry_by run l call)
@@ -249,6 +249,6 @@ module _ (labels names : List (List ℕ)) (table : IsNameTable names) where
   forks_are_known lines now (more above l run after replays good in_step rest whole next) = by after next (forks_are_known above run replays)
     where
       by : (after : Run) → IsNext labels names run l after → AreForked above run.history → AreForked (above ++ l ∷ []) after.history
-      by after (batch ops of may) forked = still_forked above l (verb_forks_nothing l Write of.0 refl) run.history forked
+      by after (batch ops of may) forked = still_forked above l (verb_forks_nothing l Verb.Write of.0 refl) run.history forked
       by after (entry call of) forked = entry_forked above l run call good in_step rest whole of forked
       by after (asked what of so) forked = still_forked above l (asked_forks_nothing labels names l what of) run.history forked

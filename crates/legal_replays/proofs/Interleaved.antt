@@ -2,20 +2,20 @@ use Rattle.std.proofs.Common.{◌≡◌, ◌≤◌, ◌<◌, ℕ, zero, suc, tru
 use Rattle.std.proofs.lemmas.Bool.{ne_eqb, le-leb, lt-leb}
 use Rattle.std.specs.Prelude.{slice_index_or}
 use Rattle.smack_base.specs.declared.ids.Pid.{Pid}
-use Rattle.smack_base.specs.declared.cap.Cap.TheVariants.{MacAdmin}
-use Rattle.smack_base.specs.declared.rule_op.RuleOp.TheVariants.{Set}
+use Rattle.smack_base.specs.declared.cap.Cap.TheVariants as Cap
+use Rattle.smack_base.specs.declared.rule_op.RuleOp.TheVariants as RuleOp
 use Rattle.text_spec.specs.Names.{place_of}
 use Rattle.rules_spec.specs.declared.Batch.{Batch}
 use Rattle.rules_spec.specs.AskedModes.{read}
 use Rattle.rules_spec.specs.Creds.{is_effective}
 use Rattle.script_spec.specs.Lines.{ScriptLine}
-use Rattle.world_spec.specs.declared.Call.TheVariants.{Task}
-use Rattle.world_spec.specs.declared.TaskCall.TheVariants.{Fork}
-use Rattle.world_spec.specs.declared.Reply.TheVariants.{Child}
+use Rattle.world_spec.specs.declared.Call.TheVariants as Call
+use Rattle.world_spec.specs.declared.TaskCall.TheVariants as TaskCall
+use Rattle.world_spec.specs.declared.Reply.TheVariants as Reply
 use Rattle.world_spec.specs.declared.Entry.{Entry}
 use Rattle.world_spec.specs.Replays.{version_of, cred_at}
 use Rattle.record_spec.specs.declared.AskedLine.{AskedLine}
-use Rattle.record_spec.specs.declared.AskedWhat.TheVariants.{Ask, Wait}
+use Rattle.record_spec.specs.declared.AskedWhat.TheVariants as AskedWhat
 use Rattle.record_spec.specs.declared.RunRecord.{RunRecord}
 use Rattle.replay_spec.specs.Laws.{calls_at}
 use Rattle.replay_spec.specs.Plain.{IsNameTable}
@@ -86,14 +86,14 @@ once (suc zero) seq = child_once seq
 once (suc (suc n)) seq = others_once (suc (suc n)) seq (omega arith)
 
 -- the one entry
-one_entry : (P : ℕ → Entry → Type 0) → P 0 (entered 0 1 0 (Fork b_pid) (Child 1)) → (i : ℕ) (e : Entry) → Stands faster_child.history i e → P i e
+one_entry : (P : ℕ → Entry → Type 0) → P 0 (entered 0 1 0 (TaskCall.Fork b_pid) (Reply.Child 1)) → (i : ℕ) (e : Entry) → Stands faster_child.history i e → P i e
 one_entry P is zero e at = subst (P 0) (same_some _ e at) is
 one_entry P is (suc i) e at = cc
 
-same_child : (a b : ℕ) → Child a ≡ Child b → a ≡ b
+same_child : (a b : ℕ) → Reply.Child a ≡ Reply.Child b → a ≡ b
 same_child a b is = cc
 
-same_fork : (a b : Pid) → Task (Fork a) ≡ Task (Fork b) → a ≡ b
+same_fork : (a b : Pid) → Call.Task (TaskCall.Fork a) ≡ Call.Task (TaskCall.Fork b) → a ≡ b
 same_fork a b is = cc
 
 fork_number : (i : ℕ) (e : Entry) (number : ℕ) (pid : Pid) → Stands faster_child.history i e → IsForkOf e number pid → (number ≡ 1) × (pid.0 ≡ 1)
@@ -105,7 +105,7 @@ parent_number : IsNumberOf faster_child.history 0 (record { 0 = 0 })
 parent_number = inl (refl, refl)
 
 child_number : IsNumberOf faster_child.history 1 (record { 0 = 1 })
-child_number = inr (0, entered 0 1 0 (Fork b_pid) (Child 1), refl, (refl, refl))
+child_number = inr (0, entered 0 1 0 (TaskCall.Fork b_pid) (Reply.Child 1), refl, (refl, refl))
 
 calls : IsEachCallOnce faster_child
 calls = record {
@@ -134,14 +134,14 @@ entries = record {
 }
 
 privileged : (i : ℕ) (b : Batch) → Stands faster_child.journal i b
-    → is_effective (cred_at faster_child.journal faster_child.history b.task b.seq) MacAdmin (version_of faster_child.journal i) ≡ true
+    → is_effective (cred_at faster_child.journal faster_child.history b.task b.seq) Cap.MacAdmin (version_of faster_child.journal i) ≡ true
 privileged zero b at =
-    subst (λ (x : Batch). is_effective (cred_at faster_child.journal faster_child.history x.task x.seq) MacAdmin (version_of faster_child.journal 0) ≡ true)
+    subst (λ (x : Batch). is_effective (cred_at faster_child.journal faster_child.history x.task x.seq) Cap.MacAdmin (version_of faster_child.journal 0) ≡ true)
     (same_some _ b at) refl
 privileged (suc i) b at = cc
 
 -- the three other lines
-one_line : (P : AskedLine → Type 0) → P (asked_in 0 2 1 (Ask by_rule)) → P (asked_in 0 3 1 (Wait b_pid)) → P (asked_in 0 4 1 (Ask by_rule))
+one_line : (P : AskedLine → Type 0) → P (asked_in 0 2 1 (AskedWhat.Ask by_rule)) → P (asked_in 0 3 1 (AskedWhat.Wait b_pid)) → P (asked_in 0 4 1 (AskedWhat.Ask by_rule))
     → (i : ℕ) (a : AskedLine) → Stands faster_child.asked i a → P a
 one_line P asks waits again zero a at = subst P (same_some _ a at) asks
 one_line P asks waits again (suc zero) a at = subst P (same_some _ a at) waits
@@ -160,19 +160,19 @@ bounds : (k q n m : ℕ) → IsCall faster_child k q n m → HasBounds k q n m
 bounds = each_call HasBounds (omega arith, omega arith, λ late. omega (arith, late)) (omega arith, omega arith, λ late. omega (arith, late))
     (omega arith, omega arith, λ late. omega arith) (omega arith, omega arith, λ late. omega arith) (omega arith, omega arith, λ late. omega arith)
 
-asks_not_waits : (pid : Pid) → Ask by_rule ≡ Wait pid → ⊥
+asks_not_waits : (pid : Pid) → AskedWhat.Ask by_rule ≡ AskedWhat.Wait pid → ⊥
 asks_not_waits pid is = cc
 
-same_wait : (a b : Pid) → Wait a ≡ Wait b → a ≡ b
+same_wait : (a b : Pid) → AskedWhat.Wait a ≡ AskedWhat.Wait b → a ≡ b
 same_wait a b is = cc
 
-wait_told : (pid : Pid) → b_pid ≡ pid → HasWaited faster_child (asked_in 0 3 1 (Wait b_pid)) pid
+wait_told : (pid : Pid) → b_pid ≡ pid → HasWaited faster_child (asked_in 0 3 1 (AskedWhat.Wait b_pid)) pid
 wait_told pid is = record {
   number = 1;
   place = 0;
-  fork = entered 0 1 0 (Fork b_pid) (Child 1);
+  fork = entered 0 1 0 (TaskCall.Fork b_pid) (Reply.Child 1);
   there = refl;
-  is = (ap (λ p. Task (Fork p)) is, refl);
+  is = (ap (λ p. Call.Task (TaskCall.Fork p)) is, refl);
   own = refl;
   told = λ task seq needs reaches down call. (bounds task seq needs reaches call).1;
   behind = λ i k e f down at_e at_f own later.
@@ -189,7 +189,7 @@ fresh = record {
   forked = λ i fork pid task seq needs reaches at is c.
       let version = one_entry (λ n x. x.version ≡ 0) refl i fork at in omega (arith, version);
   waited = λ i a pid at.
-      one_line (λ x. x.what ≡ Wait pid → HasWaited faster_child x pid) (λ is. absurd (asks_not_waits pid is))
+      one_line (λ x. x.what ≡ AskedWhat.Wait pid → HasWaited faster_child x pid) (λ is. absurd (asks_not_waits pid is))
       (λ is. wait_told pid (same_wait b_pid pid is)) (λ is. absurd (asks_not_waits pid is)) i a at;
 }
 
@@ -211,19 +211,19 @@ line_recorded task i l at own = subst (λ (k : ℕ). IsRecorded faster_child k l
     by : (i : ℕ) → Stands script_lines i l → IsRecorded faster_child l.task l
     by zero at =
         subst (λ (x : ScriptLine). IsRecorded faster_child x.task x) (same_some _ l at)
-        (entry_of 0 (entered 0 1 0 (Fork b_pid) (Child 1)) refl refl refl refl)
+        (entry_of 0 (entered 0 1 0 (TaskCall.Fork b_pid) (Reply.Child 1)) refl refl refl refl)
     by (suc zero) at =
         subst (λ (x : ScriptLine). IsRecorded faster_child x.task x) (same_some _ l at)
-        (asked_of 0 (asked_in 0 2 1 (Ask by_rule)) refl refl refl (refl, refl, refl, refl))
+        (asked_of 0 (asked_in 0 2 1 (AskedWhat.Ask by_rule)) refl refl refl (refl, refl, refl, refl))
     by (suc (suc zero)) at =
         subst (λ (x : ScriptLine). IsRecorded faster_child x.task x) (same_some _ l at)
-        (batch_of 0 (published 1 1 (Set a_label c_label read)) refl refl refl (refl, refl))
+        (batch_of 0 (published 1 1 (RuleOp.Set a_label c_label read)) refl refl refl (refl, refl))
     by (suc (suc (suc zero))) at =
         subst (λ (x : ScriptLine). IsRecorded faster_child x.task x) (same_some _ l at)
-        (asked_of 1 (asked_in 0 3 1 (Wait b_pid)) refl refl refl (refl, refl))
+        (asked_of 1 (asked_in 0 3 1 (AskedWhat.Wait b_pid)) refl refl refl (refl, refl))
     by (suc (suc (suc (suc zero)))) at =
         subst (λ (x : ScriptLine). IsRecorded faster_child x.task x) (same_some _ l at)
-        (asked_of 2 (asked_in 0 4 1 (Ask by_rule)) refl refl refl (refl, refl, refl, refl))
+        (asked_of 2 (asked_in 0 4 1 (AskedWhat.Ask by_rule)) refl refl refl (refl, refl, refl, refl))
     by (suc (suc (suc (suc (suc n))))) at = cc
 
 parent_only : (k : ℕ) → IsNumberOf faster_child.history k (record { 0 = 0 }) → k ≡ 0

@@ -4,9 +4,9 @@ use Rattle.smack_base.specs.declared.ids.Pid.{Pid}
 use Rattle.rules_spec.specs.Rulings.{ruling}
 use Rattle.script_spec.specs.Lines.{ScriptLine}
 use Rattle.script_spec.specs.Tasks.{calls_by, parents_in, task_names}
-use Rattle.world_spec.specs.declared.TaskCall.TheVariants.{Fork}
+use Rattle.world_spec.specs.declared.TaskCall.TheVariants as TaskCall
 use Rattle.world_spec.specs.declared.Call.{Call}
-use Rattle.world_spec.specs.declared.Call.TheVariants.{Task}
+use Rattle.world_spec.specs.declared.Call.TheVariants as Call
 use Rattle.world_spec.specs.declared.Entry.{Entry}
 use Rattle.world_spec.specs.Steps.{step}
 use Rattle.replay_spec.specs.Replays.{Run}
@@ -38,7 +38,7 @@ number_is above history forked number pid (inr has) = (forked.known has.0 has.1 
 new_number : (run : Run) (l : ScriptLine) (call : Call) (x : Entry) (number : ℕ) (pid : Pid) → x ≡ entry_by run l call → IsForkOf x number pid
     → number ≡ length run.world.tasks
 new_number run l call x number pid new fork =
-    let given : Task (Fork pid) ≡ call = sym fork.0 ∙ ap (λ y. y.call) new in
+    let given : Call.Task (TaskCall.Fork pid) ≡ call = sym fork.0 ∙ ap (λ y. y.call) new in
     fork_number run.world (ruling run.journal) l.task pid number
     (ap (λ c. (step run.world (ruling run.journal) l.task c).reply) given ∙ sym (ap (λ y. y.reply) new) ∙ fork.1)
 

@@ -1,18 +1,18 @@
 use Rattle.std.proofs.Common.{◌≡◌, ℕ, zero, suc, Bool, true, false, inl, inr, List, [], ◌∷◌, codes, refl, sym, ap, subst, ◌∙◌, arith}
 use Rattle.rules_spec.specs.declared.Verdict.{Verdict}
 use Rattle.smack_base.specs.declared.ids.Pid.{Pid}
-use Rattle.smack_base.specs.declared.rule_op.RuleOp.TheVariants.{Set, Revoke}
+use Rattle.smack_base.specs.declared.rule_op.RuleOp.TheVariants as RuleOp
 use Rattle.rules_spec.specs.AskedModes.{read}
-use Rattle.file_spec.specs.declared.Refusal.TheVariants.{NotPrivileged, JournalFull}
+use Rattle.file_spec.specs.declared.Refusal.TheVariants as Refusal
 use Rattle.world_spec.specs.declared.Call.{Call}
-use Rattle.world_spec.specs.declared.Call.TheVariants.{Task}
-use Rattle.world_spec.specs.declared.TaskCall.TheVariants.{Fork, Exit, Take}
+use Rattle.world_spec.specs.declared.Call.TheVariants as Call
+use Rattle.world_spec.specs.declared.TaskCall.TheVariants as TaskCall
 use Rattle.world_spec.specs.declared.Reply.{Reply}
-use Rattle.world_spec.specs.declared.Reply.TheVariants.{Ok as Done, Child, Refused as RefusedBy}
-use Rattle.world_spec.specs.declared.Why.TheVariants.{NoSuchTask, Again}
+use Rattle.world_spec.specs.declared.Reply.TheVariants as Reply
+use Rattle.world_spec.specs.declared.Why.TheVariants as Why
 use Rattle.world_spec.specs.declared.Entry.{Entry}
 use Rattle.world_spec.specs.Steps.{verdict_by_creds}
-use Rattle.record_spec.specs.declared.AskedWhat.TheVariants.{Ask, Refused, Wait}
+use Rattle.record_spec.specs.declared.AskedWhat.TheVariants as AskedWhat
 use Rattle.legal_spec.specs.Calls.{Stands, IsForkOf, IsNumberOf, IsBefore, batch, asked, Descends, itself, child as child_of}
 use Rattle.legal_spec.specs.Legal.{IsLegal}
 use Rattle.legal_replays.specs.RefusedRecords.{a_label, c_label, b_pid, c_pid, published, entered, asked_in, by_rule, without_rule, stale_ask, wrong_answer, stale_child, early_wait, early_entry, early_child, swapped_batches, unprivileged_batch, falling_version, swapped_lines, unknown_task, missing_number, name_twice, wrong_reply, wrong_check, missing_check, entry_beyond, ask_beyond, privileged_refusal, own_file_refusal, wrong_rows, wait_below_grandchild, RefusedRecords}
@@ -23,26 +23,26 @@ abbrev case_of_first : List Verdict → ℕ
 case_of_first [] = 0
 case_of_first (v ∷ vs) = v.case
 
-same_child : (a b : ℕ) → Child a ≡ Child b → a ≡ b
+same_child : (a b : ℕ) → Reply.Child a ≡ Reply.Child b → a ≡ b
 same_child a b is = cc
 
 ask : IsLegal stale_ask → ⊥
 ask legal =
     omega (
       arith,
-      legal.fresh.seen 0 1 0 1 2 0 0 (batch 0 (published 0 1 (Set a_label c_label read)) refl) (asked 0 (asked_in 0 2 0 (Ask without_rule)) refl)
+      legal.fresh.seen 0 1 0 1 2 0 0 (batch 0 (published 0 1 (RuleOp.Set a_label c_label read)) refl) (asked 0 (asked_in 0 2 0 (AskedWhat.Ask without_rule)) refl)
           (omega arith),
     )
 
 answer : IsLegal wrong_answer → ⊥
 answer legal =
-    let wrong : ◌≡◌ {A = Bool} true false = ap (λ (v : Verdict). v.allowed) (legal.asked 0 (asked_in 0 1 0 (Ask by_rule)) refl).1 in cc
+    let wrong : ◌≡◌ {A = Bool} true false = ap (λ (v : Verdict). v.allowed) (legal.asked 0 (asked_in 0 1 0 (AskedWhat.Ask by_rule)) refl).1 in cc
 
 child : IsLegal stale_child → ⊥
 child legal =
     omega (
       arith,
-      legal.fresh.forked 0 (entered 0 2 1 (Fork b_pid) (Child 1)) b_pid 1 1 0 0 refl (refl, refl) (asked 0 (asked_in 1 1 0 (Ask without_rule)) refl),
+      legal.fresh.forked 0 (entered 0 2 1 (TaskCall.Fork b_pid) (Reply.Child 1)) b_pid 1 1 0 0 refl (refl, refl) (asked 0 (asked_in 1 1 0 (AskedWhat.Ask without_rule)) refl),
     )
 
 -- the only fork of the history
@@ -52,63 +52,63 @@ wait_number (suc n) number fork at is = cc
 
 wait : IsLegal early_wait → ⊥
 wait legal =
-    let w = legal.fresh.waited 0 (asked_in 0 2 0 (Wait b_pid)) b_pid refl refl in
+    let w = legal.fresh.waited 0 (asked_in 0 2 0 (AskedWhat.Wait b_pid)) b_pid refl refl in
     let number = wait_number w.place w.number w.fork w.there w.is in
     let down : Descends early_wait.history w.number 1 = subst (λ (k : ℕ). Descends early_wait.history k 1) (sym number) itself in
-    omega (arith, w.told 1 1 0 1 down (batch 0 (published 1 1 (Set a_label c_label read)) refl))
+    omega (arith, w.told 1 1 0 1 down (batch 0 (published 1 1 (RuleOp.Set a_label c_label read)) refl))
 
-no_fork : (call other : Call) → call ≡ Task (Fork b_pid) → call ≡ other → (other ≡ Task (Fork b_pid) → ⊥) → ⊥
+no_fork : (call other : Call) → call ≡ Call.Task (TaskCall.Fork b_pid) → call ≡ other → (other ≡ Call.Task (TaskCall.Fork b_pid) → ⊥) → ⊥
 no_fork call other fork is none = none (sym is ∙ fork)
 
 entry_number : (place number : ℕ) (fork : Entry) → Stands early_entry.history place fork → IsForkOf fork number b_pid → number ≡ 1
 entry_number zero number fork at is = same_child number 1 (sym is.1 ∙ sym (ap (λ (e : Entry). e.reply) (same_some _ fork at)))
 entry_number (suc zero) number fork at is =
-    absurd (no_fork fork.call (Task Take) is.0 (sym (ap (λ (e : Entry). e.call) (same_some _ fork at))) (λ e. cc))
+    absurd (no_fork fork.call (Call.Task TaskCall.Take) is.0 (sym (ap (λ (e : Entry). e.call) (same_some _ fork at))) (λ e. cc))
 entry_number (suc (suc zero)) number fork at is =
-    absurd (no_fork fork.call (Task Exit) is.0 (sym (ap (λ (e : Entry). e.call) (same_some _ fork at))) (λ e. cc))
+    absurd (no_fork fork.call (Call.Task TaskCall.Exit) is.0 (sym (ap (λ (e : Entry). e.call) (same_some _ fork at))) (λ e. cc))
 entry_number (suc (suc (suc n))) number fork at is = cc
 
 waiter : IsLegal early_entry → ⊥
 waiter legal =
-    let w = legal.fresh.waited 0 (asked_in 0 2 0 (Wait b_pid)) b_pid refl refl in
+    let w = legal.fresh.waited 0 (asked_in 0 2 0 (AskedWhat.Wait b_pid)) b_pid refl refl in
     let number = entry_number w.place w.number w.fork w.there w.is in
     let down : Descends early_entry.history w.number 1 = subst (λ (k : ℕ). Descends early_entry.history k 1) (sym number) itself in
-    omega (arith, w.behind 2 1 (entered 1 1 0 Exit Done) (entered 0 3 0 Take (RefusedBy Again)) down refl refl refl (omega arith))
+    omega (arith, w.behind 2 1 (entered 1 1 0 TaskCall.Exit Reply.Ok) (entered 0 3 0 TaskCall.Take (Reply.Refused Why.Again)) down refl refl refl (omega arith))
 
 fork : IsLegal early_child → ⊥
 fork legal =
     omega (
       arith,
-      legal.calls.behind_fork 1 0 (entered 0 1 0 (Fork b_pid) (Child 1)) (entered 1 1 0 Take (RefusedBy NoSuchTask)) b_pid refl (refl, refl) refl,
+      legal.calls.behind_fork 1 0 (entered 0 1 0 (TaskCall.Fork b_pid) (Reply.Child 1)) (entered 1 1 0 TaskCall.Take (Reply.Refused Why.NoSuchTask)) b_pid refl (refl, refl) refl,
     )
 
 batches : IsLegal swapped_batches → ⊥
 batches legal =
     omega (
       arith,
-      legal.fresh.seen 0 1 1 2 2 0 1 (batch 1 (published 0 1 (Set a_label c_label read)) refl) (batch 0 (published 0 2 (Revoke a_label)) refl) (omega arith),
+      legal.fresh.seen 0 1 1 2 2 0 1 (batch 1 (published 0 1 (RuleOp.Set a_label c_label read)) refl) (batch 0 (published 0 2 (RuleOp.Revoke a_label)) refl) (omega arith),
     )
 
 privilege : IsLegal unprivileged_batch → ⊥
-privilege legal = let wrong : ◌≡◌ {A = Bool} false true = legal.batches 0 (published 0 2 (Set a_label c_label read)) refl in cc
+privilege legal = let wrong : ◌≡◌ {A = Bool} false true = legal.batches 0 (published 0 2 (RuleOp.Set a_label c_label read)) refl in cc
 
 version : IsLegal falling_version → ⊥
 version legal =
     omega (
       arith,
-      legal.entries.rising 1 2 (entered 0 3 1 Take (RefusedBy Again)) (entered 1 1 0 Take (RefusedBy Again)) refl refl (omega arith),
+      legal.entries.rising 1 2 (entered 0 3 1 TaskCall.Take (Reply.Refused Why.Again)) (entered 1 1 0 TaskCall.Take (Reply.Refused Why.Again)) refl refl (omega arith),
     )
 
 lines : IsLegal swapped_lines → ⊥
 lines legal =
-    by (legal.calls.listed 0 1 (asked_in 0 2 0 (Ask without_rule)) (asked_in 0 1 0 (Ask without_rule)) refl refl (omega arith))
+    by (legal.calls.listed 0 1 (asked_in 0 2 0 (AskedWhat.Ask without_rule)) (asked_in 0 1 0 (AskedWhat.Ask without_rule)) refl refl (omega arith))
   where
-    by : IsBefore (asked_in 0 2 0 (Ask without_rule)) (asked_in 0 1 0 (Ask without_rule)) → ⊥
+    by : IsBefore (asked_in 0 2 0 (AskedWhat.Ask without_rule)) (asked_in 0 1 0 (AskedWhat.Ask without_rule)) → ⊥
     by (inl below) = omega (arith, below)
     by (inr same) = omega (arith, same.1)
 
 task : IsLegal unknown_task → ⊥
-task legal = by (legal.calls.of_tasks 1 1 0 0 (asked 0 (asked_in 1 1 0 (Ask without_rule)) refl)).1
+task legal = by (legal.calls.of_tasks 1 1 0 0 (asked 0 (asked_in 1 1 0 (AskedWhat.Ask without_rule)) refl)).1
   where
     by : {pid : _} → IsNumberOf [] 1 pid → ⊥
     by (inl is) = omega (arith, is.0)
@@ -121,7 +121,7 @@ name : IsLegal name_twice → ⊥
 name legal = let wrong : ◌≡◌ {A = ℕ} 0 1 = legal.names.once 1 (omega arith) in omega (arith, wrong)
 
 reply : IsLegal wrong_reply → ⊥
-reply legal = let wrong : ◌≡◌ {A = Reply} Done (RefusedBy Again) = legal.entries.steps.1 in cc
+reply legal = let wrong : ◌≡◌ {A = Reply} Reply.Ok (Reply.Refused Why.Again) = legal.entries.steps.1 in cc
 
 check : IsLegal wrong_check → ⊥
 unfolding verdict_by_creds
@@ -133,45 +133,45 @@ unfolding verdict_by_creds
 no_check legal = let wrong : ◌≡◌ {A = ℕ} 0 3 = ap case_of_first legal.entries.steps.0 in omega (arith, wrong)
 
 entry_within : IsLegal entry_beyond → ⊥
-entry_within legal = omega (arith, legal.entries.within 0 (entered 0 1 1 Take (RefusedBy Again)) refl)
+entry_within legal = omega (arith, legal.entries.within 0 (entered 0 1 1 TaskCall.Take (Reply.Refused Why.Again)) refl)
 
 ask_within : IsLegal ask_beyond → ⊥
-ask_within legal = omega (arith, (legal.asked 0 (asked_in 0 1 1 (Ask without_rule)) refl).0)
+ask_within legal = omega (arith, (legal.asked 0 (asked_in 0 1 1 (AskedWhat.Ask without_rule)) refl).0)
 
 effective : IsLegal privileged_refusal → ⊥
 effective legal =
-    let wrong : ◌≡◌ {A = Bool} true false = (legal.asked 0 (asked_in 0 1 0 (Refused (codes "load2") NotPrivileged)) refl).1.1 in cc
+    let wrong : ◌≡◌ {A = Bool} true false = (legal.asked 0 (asked_in 0 1 0 (AskedWhat.Refused (codes "load2") Refusal.NotPrivileged)) refl).1.1 in cc
 
 own_file : IsLegal own_file_refusal → ⊥
 own_file legal =
-    let wrong : ◌≡◌ {A = Bool} false true = (legal.asked 0 (asked_in 0 2 0 (Refused (codes "load-self2") NotPrivileged)) refl).1.0 in cc
+    let wrong : ◌≡◌ {A = Bool} false true = (legal.asked 0 (asked_in 0 2 0 (AskedWhat.Refused (codes "load-self2") Refusal.NotPrivileged)) refl).1.0 in cc
 
 rows : IsLegal wrong_rows → ⊥
 rows legal =
-    let wrong : ◌≡◌ {A = ℕ} 1048576 0 = (legal.asked 0 (asked_in 0 1 0 (Refused (codes "load2") (JournalFull 1048576))) refl).1.1 in
+    let wrong : ◌≡◌ {A = ℕ} 1048576 0 = (legal.asked 0 (asked_in 0 1 0 (AskedWhat.Refused (codes "load2") (Refusal.JournalFull 1048576))) refl).1.1 in
     omega (arith, wrong)
 
-same_pid : (a b : Pid) → ◌≡◌ {A = Call} (Task (Fork a)) (Task (Fork b)) → a ≡ b
+same_pid : (a b : Pid) → ◌≡◌ {A = Call} (Call.Task (TaskCall.Fork a)) (Call.Task (TaskCall.Fork b)) → a ≡ b
 same_pid a b is = cc
 
-other_fork : ◌≡◌ {A = Call} (Task (Fork c_pid)) (Task (Fork b_pid)) → ⊥
+other_fork : ◌≡◌ {A = Call} (Call.Task (TaskCall.Fork c_pid)) (Call.Task (TaskCall.Fork b_pid)) → ⊥
 other_fork is = let wrong : ◌≡◌ {A = ℕ} 2 1 = ap (λ (pid : Pid). pid.0) (same_pid c_pid b_pid is) in omega (arith, wrong)
 
 grandchild_number : (place number : ℕ) (fork : Entry) → Stands wait_below_grandchild.history place fork → IsForkOf fork number b_pid → number ≡ 1
 grandchild_number zero number fork at is = same_child number 1 (sym is.1 ∙ sym (ap (λ (e : Entry). e.reply) (same_some _ fork at)))
 grandchild_number (suc zero) number fork at is =
-    absurd (no_fork fork.call (Task (Fork c_pid)) is.0 (sym (ap (λ (e : Entry). e.call) (same_some _ fork at))) other_fork)
+    absurd (no_fork fork.call (Call.Task (TaskCall.Fork c_pid)) is.0 (sym (ap (λ (e : Entry). e.call) (same_some _ fork at))) other_fork)
 grandchild_number (suc (suc n)) number fork at is = cc
 
 descendant : IsLegal wait_below_grandchild → ⊥
 descendant legal =
-    let w = legal.fresh.waited 0 (asked_in 0 2 0 (Wait b_pid)) b_pid refl refl in
+    let w = legal.fresh.waited 0 (asked_in 0 2 0 (AskedWhat.Wait b_pid)) b_pid refl refl in
     let number = grandchild_number w.place w.number w.fork w.there w.is in
     let down : Descends wait_below_grandchild.history w.number 1 =
     subst (λ (k : ℕ). Descends wait_below_grandchild.history k 1) (sym number) itself in
     let lower : Descends wait_below_grandchild.history w.number 2 =
-    child_of 1 (entered 1 1 0 (Fork c_pid) (Child 2)) 2 c_pid down refl (refl, refl) in
-    omega (arith, w.told 2 1 0 1 lower (batch 0 (published 2 1 (Set a_label c_label read)) refl))
+    child_of 1 (entered 1 1 0 (TaskCall.Fork c_pid) (Reply.Child 2)) 2 c_pid down refl (refl, refl) in
+    omega (arith, w.told 2 1 0 1 lower (batch 0 (published 2 1 (RuleOp.Set a_label c_label read)) refl))
 
 pub refused : RefusedRecords
 refused = record {

@@ -3,7 +3,7 @@ use Rattle.std.specs.Prelude.{is_some}
 use Rattle.smack_base.specs.declared.modes.Modes.{Modes}
 use Rattle.smack_base.specs.declared.ids.LabelId.{LabelId}
 use Rattle.smack_base.specs.declared.ids.Pid.{Pid}
-use Rattle.smack_base.specs.declared.cap.Cap.TheVariants.{MacAdmin}
+use Rattle.smack_base.specs.declared.cap.Cap.TheVariants as Cap
 use Rattle.smack_base.specs.declared.rule_op.RuleOp.{RuleOp}
 use Rattle.smack_base.specs.Modes.{is_modes}
 use Rattle.rules_spec.specs.declared.Batch.{Batch}
@@ -12,25 +12,25 @@ use Rattle.rules_spec.specs.Cases.{verdict_of_cases}
 use Rattle.rules_spec.specs.Creds.{is_effective}
 use Rattle.text_spec.specs.Names.{has_name, id_of}
 use Rattle.file_spec.specs.declared.Refusal.{Refusal}
-use Rattle.file_spec.specs.declared.Refusal.TheVariants.{NoSuchFile, TooLong, BadLine, UnknownLabel, NotPrivileged, JournalFull}
+use Rattle.file_spec.specs.declared.Refusal.TheVariants as Refusal
 use Rattle.file_spec.specs.declared.Compiled.{Compiled}
-use Rattle.file_spec.specs.declared.Compiled.TheVariants.{Rules, SelfRules, Relabels}
+use Rattle.file_spec.specs.declared.Compiled.TheVariants as Compiled
 use Rattle.file_spec.specs.Writes.{rule_file}
 use Rattle.file_spec.specs.Files.{compiled}
 use Rattle.script_spec.specs.declared.Verb.{Verb}
-use Rattle.script_spec.specs.declared.Verb.TheVariants.{Write, Ask as AskVerb, Wait as WaitVerb, Task as TaskVerb, Tree as TreeVerb}
+use Rattle.script_spec.specs.declared.Verb.TheVariants as Verb
 use Rattle.script_spec.specs.Lines.{ScriptLine, word_in, verb_in, table_of}
 use Rattle.script_spec.specs.Tasks.{task_names}
 use Rattle.script_spec.specs.Grammar.{parse}
-use Rattle.world_spec.specs.declared.TaskCall.TheVariants.{SelfRules as RulesOfTask, Relabels as LabelsOfTask}
+use Rattle.world_spec.specs.declared.TaskCall.TheVariants as TaskCall
 use Rattle.world_spec.specs.declared.Call.{Call}
-use Rattle.world_spec.specs.declared.Call.TheVariants.{Task, Tree}
+use Rattle.world_spec.specs.declared.Call.TheVariants as Call
 use Rattle.world_spec.specs.declared.Entry.{Entry}
 use Rattle.world_spec.specs.Worlds.{creds_of}
 use Rattle.world_spec.specs.Steps.{Stepped, step}
 use Rattle.record_spec.specs.declared.AskedLine.{AskedLine}
 use Rattle.record_spec.specs.declared.AskedWhat.{AskedWhat}
-use Rattle.record_spec.specs.declared.AskedWhat.TheVariants.{Ask, Refused, Wait}
+use Rattle.record_spec.specs.declared.AskedWhat.TheVariants as AskedWhat
 use Rattle.replay_spec.specs.Calls.{pid_in, of_one, task_call, tree_call, file_call, call_by, call_of_line}
 use Rattle.replay_spec.specs.Plain.{IsNameTable}
 use Rattle.replay_spec.specs.Replays.{Run, run_first, number_of_task, with_asked, noted, published, stepped_by, written, modes_in, answered, awaited, entered, after_verb, after_line, run_of}
@@ -72,22 +72,22 @@ with_line run l what = record run { asked = with_asked run.asked (asked_by run l
 
 -- what an asked, refused or waited line says is so in the newest version
 abbrev pub IsRefusedNow : Run → ScriptLine → List ℕ → Refusal → Type 0
-IsRefusedNow run l file NoSuchFile = Unit {0}
-IsRefusedNow run l file TooLong = Unit {0}
-IsRefusedNow run l file (BadLine bad) = Unit {0}
-IsRefusedNow run l file (UnknownLabel line) = Unit {0}
-IsRefusedNow run l file NotPrivileged =
-    (is_some (rule_file file) ≡ true) × (is_effective (creds_of run.world l.task) MacAdmin (ruling run.journal) ≡ false)
-IsRefusedNow run l file (JournalFull rows) = ⊥
+IsRefusedNow run l file Refusal.NoSuchFile = Unit {0}
+IsRefusedNow run l file Refusal.TooLong = Unit {0}
+IsRefusedNow run l file (Refusal.BadLine bad) = Unit {0}
+IsRefusedNow run l file (Refusal.UnknownLabel line) = Unit {0}
+IsRefusedNow run l file Refusal.NotPrivileged =
+    (is_some (rule_file file) ≡ true) × (is_effective (creds_of run.world l.task) Cap.MacAdmin (ruling run.journal) ≡ false)
+IsRefusedNow run l file (Refusal.JournalFull rows) = ⊥
 
 abbrev pub IsSoNow : Run → ScriptLine → AskedWhat → Type 0
-IsSoNow run l (Ask v) = v ≡ verdict_of_cases (ruling run.journal) v.subject v.object v.modes
-IsSoNow run l (Refused file fault) = IsRefusedNow run l file fault
-IsSoNow run l (Wait pid) = Unit {0}
+IsSoNow run l (AskedWhat.Ask v) = v ≡ verdict_of_cases (ruling run.journal) v.subject v.object v.modes
+IsSoNow run l (AskedWhat.Refused file fault) = IsRefusedNow run l file fault
+IsSoNow run l (AskedWhat.Wait pid) = Unit {0}
 
 -- what a run may be after one more line
 pub data IsNext (labels names : List (List ℕ)) (run : Run) (l : ScriptLine) : Run → Type 0 where
-  batch : (ops : List RuleOp) → IsBatchOfLine labels l ops → is_effective (creds_of run.world l.task) MacAdmin (ruling run.journal) ≡ true
+  batch : (ops : List RuleOp) → IsBatchOfLine labels l ops → is_effective (creds_of run.world l.task) Cap.MacAdmin (ruling run.journal) ≡ true
       → IsNext labels names run l (with_batch run l ops)
   entry : (call : Call) → IsCallOfLine labels names l call → IsNext labels names run l (with_entry run l call)
   asked : (what : AskedWhat) → IsAskedOfLine labels names l what → IsSoNow run l what → IsNext labels names run l (with_line run l what)
@@ -97,10 +97,10 @@ module _ (labels names : List (List ℕ)) (run : Run) (l : ScriptLine) (is : num
   Next after = IsNext labels names run l after
 
   published_next : (ops : List RuleOp) → IsBatchOfLine labels l ops
-      → is_effective (creds_of run.world (number_of_task run l)) MacAdmin (ruling run.journal) ≡ true → Next (published run l ops)
+      → is_effective (creds_of run.world (number_of_task run l)) Cap.MacAdmin (ruling run.journal) ≡ true → Next (published run l ops)
   published_next ops of may =
       subst (λ (k : ℕ). Next (record run { journal = run.journal ++ (record { task = k; seq = l.seq; ops = ops }) ∷ [] })) (sym is)
-      (batch ops of (subst (λ (k : ℕ). is_effective (creds_of run.world k) MacAdmin (ruling run.journal) ≡ true) is may))
+      (batch ops of (subst (λ (k : ℕ). is_effective (creds_of run.world k) Cap.MacAdmin (ruling run.journal) ≡ true) is may))
 
   stepped_next : (call : Call) → IsCallOfLine labels names l call → Next (stepped_by run l call)
   stepped_next call of =
@@ -124,46 +124,46 @@ module _ (labels names : List (List ℕ)) (run : Run) (l : ScriptLine) (is : num
 
   text_refused : (fault : Refusal) → IsTextRefusal fault → compiled labels (word_in 1 l) l.text.bytes ≡ Err fault
       → IsRefusalOfLine labels l fault × IsRefusedNow run l (word_in 1 l) fault
-  text_refused NoSuchFile of_text is = (is, tt)
-  text_refused TooLong of_text is = (is, tt)
-  text_refused (BadLine bad) of_text is = (is, tt)
-  text_refused (UnknownLabel line) of_text is = (is, tt)
-  text_refused NotPrivileged of_text is = absurd of_text
-  text_refused (JournalFull rows) of_text is = absurd of_text
+  text_refused Refusal.NoSuchFile of_text is = (is, tt)
+  text_refused Refusal.TooLong of_text is = (is, tt)
+  text_refused (Refusal.BadLine bad) of_text is = (is, tt)
+  text_refused (Refusal.UnknownLabel line) of_text is = (is, tt)
+  text_refused Refusal.NotPrivileged of_text is = absurd of_text
+  text_refused (Refusal.JournalFull rows) of_text is = absurd of_text
 
-  written_next : (made : Result Compiled Refusal) → verb_in l ≡ Some Write → compiled labels (word_in 1 l) l.text.bytes ≡ made
+  written_next : (made : Result Compiled Refusal) → verb_in l ≡ Some Verb.Write → compiled labels (word_in 1 l) l.text.bytes ≡ made
       → Next (written run l made)
-  written_next (Ok (Rules ops)) verb made =
-      by (is_effective (creds_of run.world (number_of_task run l)) MacAdmin (ruling run.journal)) refl
+  written_next (Ok (Compiled.Rules ops)) verb made =
+      by (is_effective (creds_of run.world (number_of_task run l)) Cap.MacAdmin (ruling run.journal)) refl
     where
-      by : (may : Bool) → is_effective (creds_of run.world (number_of_task run l)) MacAdmin (ruling run.journal) ≡ may
-          → Next (if may then published run l ops else noted run l (Refused (word_in 1 l) NotPrivileged))
+      by : (may : Bool) → is_effective (creds_of run.world (number_of_task run l)) Cap.MacAdmin (ruling run.journal) ≡ may
+          → Next (if may then published run l ops else noted run l (AskedWhat.Refused (word_in 1 l) Refusal.NotPrivileged))
       by true may = published_next ops (verb, made) may
       by false may =
-          noted_next (Refused (word_in 1 l) NotPrivileged) (verb, refl, (ops, made)) (
+          noted_next (AskedWhat.Refused (word_in 1 l) Refusal.NotPrivileged) (verb, refl, (ops, made)) (
             rules_of_file labels (word_in 1 l) l.text.bytes ops made,
-            subst (λ (k : ℕ). is_effective (creds_of run.world k) MacAdmin (ruling run.journal) ≡ false) is may,
+            subst (λ (k : ℕ). is_effective (creds_of run.world k) Cap.MacAdmin (ruling run.journal) ≡ false) is may,
           )
-  written_next (Ok (SelfRules rules)) verb made =
-      stepped_next (Task (RulesOfTask rules)) (ap (call_by labels names l) verb ∙ ap (λ m. of_one (file_call m) (λ call. Task call)) made)
-  written_next (Ok (Relabels list)) verb made =
-      stepped_next (Task (LabelsOfTask list)) (ap (call_by labels names l) verb ∙ ap (λ m. of_one (file_call m) (λ call. Task call)) made)
+  written_next (Ok (Compiled.SelfRules rules)) verb made =
+      stepped_next (Call.Task (TaskCall.SelfRules rules)) (ap (call_by labels names l) verb ∙ ap (λ m. of_one (file_call m) (λ call. Call.Task call)) made)
+  written_next (Ok (Compiled.Relabels list)) verb made =
+      stepped_next (Call.Task (TaskCall.Relabels list)) (ap (call_by labels names l) verb ∙ ap (λ m. of_one (file_call m) (λ call. Call.Task call)) made)
   written_next (Err fault) verb made =
       let refused = text_refused fault (text_refusal labels (word_in 1 l) l.text.bytes fault made) made in
-      noted_next (Refused (word_in 1 l) fault) (verb, refl, refused.0) refused.1
+      noted_next (AskedWhat.Refused (word_in 1 l) fault) (verb, refl, refused.0) refused.1
 
-  answered_next : (s o : Option LabelId) (m : Option Modes) → verb_in l ≡ Some AskVerb → id_of labels (word_in 1 l) ≡ s
+  answered_next : (s o : Option LabelId) (m : Option Modes) → verb_in l ≡ Some Verb.Ask → id_of labels (word_in 1 l) ≡ s
       → id_of labels (word_in 2 l) ≡ o → modes_in (word_in 3 l) ≡ m → is_some s ≡ true → is_some o ≡ true → is_some m ≡ true
       → Next (answered run l s o m)
   answered_next (Some s) (Some o) (Some m) verb subject object modes has_s has_o has_m =
-      noted_next (Ask (verdict_of_cases (ruling run.journal) s o m)) (verb, subject, object, modes) refl
+      noted_next (AskedWhat.Ask (verdict_of_cases (ruling run.journal) s o m)) (verb, subject, object, modes) refl
   answered_next (Some s) (Some o) None verb subject object modes has_s has_o has_m = cc
   answered_next (Some s) None m verb subject object modes has_s has_o has_m = cc
   answered_next None o m verb subject object modes has_s has_o has_m = cc
 
-  awaited_next : (pid : Option Pid) → verb_in l ≡ Some WaitVerb → pid_in names (word_in 1 l) ≡ pid → is_some pid ≡ true → Next (awaited run l pid)
+  awaited_next : (pid : Option Pid) → verb_in l ≡ Some Verb.Wait → pid_in names (word_in 1 l) ≡ pid → is_some pid ≡ true → Next (awaited run l pid)
   awaited_next None verb at has = cc
-  awaited_next (Some pid) verb at has = noted_next (Wait pid) (verb, at) tt
+  awaited_next (Some pid) verb at has = noted_next (AskedWhat.Wait pid) (verb, at) tt
 
   entered_next : (call : Option Call) → call_of_line labels names l ≡ call → is_some call ≡ true → Next (entered run l call)
   entered_next None of has = cc
@@ -181,17 +181,17 @@ module _ (labels names : List (List ℕ)) (run : Run) (l : ScriptLine) (is : num
 
   -- a call whose words are found leaves one thing in the record
   pub verb_next : (verb : Verb) → verb_in l ≡ Some verb → IsMade labels names l verb → Next (after_verb labels names run l (Some verb))
-  verb_next Write verb made = written_next (compiled labels (word_in 1 l) l.text.bytes) verb refl
-  verb_next AskVerb verb made =
+  verb_next Verb.Write verb made = written_next (compiled labels (word_in 1 l) l.text.bytes) verb refl
+  verb_next Verb.Ask verb made =
       answered_next (id_of labels (word_in 1 l)) (id_of labels (word_in 2 l)) (modes_in (word_in 3 l)) verb refl refl refl
       (known_label (word_in 1 l) made.0) (known_label (word_in 2 l) made.1) (known_modes (word_in 3 l) made.2)
-  verb_next WaitVerb verb made = awaited_next (pid_in names (word_in 1 l)) verb refl made
-  verb_next (TaskVerb v) verb made =
-      entered_next (of_one (task_call labels names l v) (λ call. Task call)) (ap (call_by labels names l) verb)
-      (made_some (task_call labels names l v) (λ call. Task call) made)
-  verb_next (TreeVerb v) verb made =
-      entered_next (of_one (tree_call l v) (λ call. Tree call)) (ap (call_by labels names l) verb)
-      (made_some (tree_call l v) (λ call. Tree call) made)
+  verb_next Verb.Wait verb made = awaited_next (pid_in names (word_in 1 l)) verb refl made
+  verb_next (Verb.Task v) verb made =
+      entered_next (of_one (task_call labels names l v) (λ call. Call.Task call)) (ap (call_by labels names l) verb)
+      (made_some (task_call labels names l v) (λ call. Call.Task call) made)
+  verb_next (Verb.Tree v) verb made =
+      entered_next (of_one (tree_call l v) (λ call. Call.Tree call)) (ap (call_by labels names l) verb)
+      (made_some (tree_call l v) (λ call. Call.Tree call) made)
 
 -- how a run comes to be, line by line
 pub data Replays (labels names : List (List ℕ)) : List ScriptLine → Run → Type 0 where

@@ -7,24 +7,24 @@ use Rattle.text_spec.specs.declared.BadLine.{BadLine as BadLineOf}
 use Rattle.text_spec.specs.Names.{id_of}
 use Rattle.file_spec.specs.declared.RuleFile.{RuleFile}
 use Rattle.file_spec.specs.declared.SelfFile.{SelfFile}
-use Rattle.file_spec.specs.declared.SelfFile.TheVariants.{LoadSelf2, LoadSelf, RelabelSelf}
+use Rattle.file_spec.specs.declared.SelfFile.TheVariants as SelfFile
 use Rattle.file_spec.specs.declared.SmackFile.{SmackFile}
-use Rattle.file_spec.specs.declared.SmackFile.TheVariants.{Rule, Own}
+use Rattle.file_spec.specs.declared.SmackFile.TheVariants as SmackFile
 use Rattle.file_spec.specs.declared.Refusal.{Refusal}
-use Rattle.file_spec.specs.declared.Refusal.TheVariants.{NoSuchFile, TooLong, BadLine, UnknownLabel, NotPrivileged, JournalFull}
+use Rattle.file_spec.specs.declared.Refusal.TheVariants as Refusal
 use Rattle.file_spec.specs.declared.Compiled.{Compiled}
-use Rattle.file_spec.specs.declared.Compiled.TheVariants.{Rules, SelfRules, Relabels}
+use Rattle.file_spec.specs.declared.Compiled.TheVariants as Compiled
 use Rattle.file_spec.specs.Writes.{NamedWrite, NamedSet, NamedChange, NamedRevoke, NamedClear, NamedAdd, NamedAmbient, NamedPtrace, NamedLogging, rule_file, self_file, file_of, read_as, line_of, writes_of_text}
 use Rattle.file_spec.specs.Files.{by_id, by_ids, op_of, with_first_op, ops_of, ops_of_writes, becomes, if_accepted, compiled_text, compiled_in, compiled}
 
 -- a refusal that a text alone may have
 abbrev pub IsTextRefusal : Refusal → Type 0
-IsTextRefusal NoSuchFile = Unit {0}
-IsTextRefusal TooLong = Unit {0}
-IsTextRefusal (BadLine bad) = Unit {0}
-IsTextRefusal (UnknownLabel line) = Unit {0}
-IsTextRefusal NotPrivileged = ⊥
-IsTextRefusal (JournalFull rows) = ⊥
+IsTextRefusal Refusal.NoSuchFile = Unit {0}
+IsTextRefusal Refusal.TooLong = Unit {0}
+IsTextRefusal (Refusal.BadLine bad) = Unit {0}
+IsTextRefusal (Refusal.UnknownLabel line) = Unit {0}
+IsTextRefusal Refusal.NotPrivileged = ⊥
+IsTextRefusal (Refusal.JournalFull rows) = ⊥
 
 abbrev IsOfText : {A : Type 0} → Result A Refusal → Type 0
 IsOfText (Ok a) = Unit {0}
@@ -70,7 +70,7 @@ in_of_text : (table : List (List ℕ)) (file : Option SmackFile) (text : List �
 in_of_text table None text = tt
 in_of_text table (Some file) text = by (nat_lt 65536 (length text))
   where
-    by : (long : Bool) → IsOfText (if long then Err TooLong else compiled_text table file text)
+    by : (long : Bool) → IsOfText (if long then Err Refusal.TooLong else compiled_text table file text)
     by true = tt
     by false =
         accepted_of_text file (ops_of_writes table text (writes_of_text (read_as file) text))
@@ -85,44 +85,44 @@ text_refusal table name text fault is = by_text (compiled table name text) fault
 
 -- what becomes a batch of rule writes was written to a file of rules or settings
 abbrev IsRulesOnly : Option RuleFile → Result Compiled Refusal → Type 0
-IsRulesOnly file (Ok (Rules ops)) = is_some file ≡ true
-IsRulesOnly file (Ok (SelfRules rules)) = Unit {0}
-IsRulesOnly file (Ok (Relabels list)) = Unit {0}
+IsRulesOnly file (Ok (Compiled.Rules ops)) = is_some file ≡ true
+IsRulesOnly file (Ok (Compiled.SelfRules rules)) = Unit {0}
+IsRulesOnly file (Ok (Compiled.Relabels list)) = Unit {0}
 IsRulesOnly file (Err fault) = Unit {0}
 
-own_becomes : (rule : Option RuleFile) (file : SelfFile) (ops : List RuleOp) → IsRulesOnly rule (Ok (becomes (Own file) ops))
-own_becomes rule LoadSelf2 ops = tt
-own_becomes rule LoadSelf ops = tt
-own_becomes rule RelabelSelf ops = tt
+own_becomes : (rule : Option RuleFile) (file : SelfFile) (ops : List RuleOp) → IsRulesOnly rule (Ok (becomes (SmackFile.Own file) ops))
+own_becomes rule SelfFile.LoadSelf2 ops = tt
+own_becomes rule SelfFile.LoadSelf ops = tt
+own_becomes rule SelfFile.RelabelSelf ops = tt
 
-own_accepted : (rule : Option RuleFile) (file : SelfFile) (ops : Result (List RuleOp) Refusal) → IsRulesOnly rule (if_accepted (Own file) ops)
+own_accepted : (rule : Option RuleFile) (file : SelfFile) (ops : Result (List RuleOp) Refusal) → IsRulesOnly rule (if_accepted (SmackFile.Own file) ops)
 own_accepted rule file (Ok ops) = own_becomes rule file ops
 own_accepted rule file (Err e) = tt
 
 own_compiled : (rule : Option RuleFile) (table : List (List ℕ)) (file : Option SelfFile) (text : List ℕ)
-    → IsRulesOnly rule (compiled_in table (option_map (λ f. Own f) file) text)
+    → IsRulesOnly rule (compiled_in table (option_map (λ f. SmackFile.Own f) file) text)
 own_compiled rule table None text = tt
 own_compiled rule table (Some file) text = by (nat_lt 65536 (length text))
   where
-    by : (long : Bool) → IsRulesOnly rule (if long then Err TooLong else compiled_text table (Own file) text)
+    by : (long : Bool) → IsRulesOnly rule (if long then Err Refusal.TooLong else compiled_text table (SmackFile.Own file) text)
     by true = tt
-    by false = own_accepted rule file (ops_of_writes table text (writes_of_text (read_as (Own file)) text))
+    by false = own_accepted rule file (ops_of_writes table text (writes_of_text (read_as (SmackFile.Own file)) text))
 
 rules_only : (file : Option RuleFile) (made : Result Compiled Refusal) → is_some file ≡ true → IsRulesOnly file made
-rules_only file (Ok (Rules ops)) is = is
-rules_only file (Ok (SelfRules rules)) is = tt
-rules_only file (Ok (Relabels list)) is = tt
+rules_only file (Ok (Compiled.Rules ops)) is = is
+rules_only file (Ok (Compiled.SelfRules rules)) is = tt
+rules_only file (Ok (Compiled.Relabels list)) is = tt
 rules_only file (Err fault) is = tt
 
 by_file : (table : List (List ℕ)) (rule : Option RuleFile) (own : Option SelfFile) (text : List ℕ)
-    → IsRulesOnly rule (compiled_in table (option_or (option_map (λ file. Rule file) rule) (option_map (λ file. Own file) own)) text)
+    → IsRulesOnly rule (compiled_in table (option_or (option_map (λ file. SmackFile.Rule file) rule) (option_map (λ file. SmackFile.Own file) own)) text)
 by_file table None own text = own_compiled None table own text
-by_file table (Some file) own text = rules_only (Some file) (compiled_in table (Some (Rule file)) text) refl
+by_file table (Some file) own text = rules_only (Some file) (compiled_in table (Some (SmackFile.Rule file)) text) refl
 
-by_rules : (file : Option RuleFile) (made : Result Compiled Refusal) (ops : List RuleOp) → made ≡ Ok (Rules ops) → IsRulesOnly file made → is_some file ≡ true
+by_rules : (file : Option RuleFile) (made : Result Compiled Refusal) (ops : List RuleOp) → made ≡ Ok (Compiled.Rules ops) → IsRulesOnly file made → is_some file ≡ true
 by_rules file made ops is only = subst (λ m. IsRulesOnly file m) is only
 
-pub rules_of_file : (table : List (List ℕ)) (name text : List ℕ) (ops : List RuleOp) → compiled table name text ≡ Ok (Rules ops)
+pub rules_of_file : (table : List (List ℕ)) (name text : List ℕ) (ops : List RuleOp) → compiled table name text ≡ Ok (Compiled.Rules ops)
     → is_some (rule_file name) ≡ true
 rules_of_file table name text ops is =
     by_rules (rule_file name) (compiled table name text) ops is (by_file table (rule_file name) (self_file name) text)

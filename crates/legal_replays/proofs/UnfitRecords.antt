@@ -1,16 +1,16 @@
 use Rattle.std.proofs.Common.{◌≡◌, ℕ, zero, suc, Bool, true, false, inl, List, [], ◌∷◌, Result, Ok, Err, codes, length, refl, sym, ap, subst, ◌∙◌, arith}
 use Rattle.smack_base.specs.declared.modes.Modes.{Modes}
-use Rattle.smack_base.specs.declared.rule_op.RuleOp.TheVariants.{Set}
+use Rattle.smack_base.specs.declared.rule_op.RuleOp.TheVariants as RuleOp
 use Rattle.text_spec.specs.Names.{predefined}
 use Rattle.rules_spec.specs.AskedModes.{read, write}
 use Rattle.rules_spec.specs.Versions.{floor}
 use Rattle.rules_spec.specs.declared.Batch.{Batch}
 use Rattle.file_spec.specs.declared.Refusal.{Refusal}
-use Rattle.file_spec.specs.declared.Refusal.TheVariants.{UnknownLabel}
+use Rattle.file_spec.specs.declared.Refusal.TheVariants as Refusal
 use Rattle.file_spec.specs.declared.Compiled.{Compiled}
-use Rattle.file_spec.specs.declared.Compiled.TheVariants.{Rules}
-use Rattle.world_spec.specs.declared.Call.TheVariants.{Task}
-use Rattle.world_spec.specs.declared.TaskCall.TheVariants.{Exit, Take}
+use Rattle.file_spec.specs.declared.Compiled.TheVariants as Compiled
+use Rattle.world_spec.specs.declared.Call.TheVariants as Call
+use Rattle.world_spec.specs.declared.TaskCall.TheVariants as TaskCall
 use Rattle.world_spec.specs.declared.Entry.{Entry}
 use Rattle.record_spec.specs.declared.AskedLine.{AskedLine}
 use Rattle.legal_spec.specs.Calls.{call_count}
@@ -32,9 +32,9 @@ twice fits =
 other_line : (number : ℕ) → IsRecorded other_call number take_line → ⊥
 other_line number (batch_of i b at own seq line) = cc
 other_line number (entry_of zero e at own seq line) =
-    let call : Task Exit ≡ e.call = ap (λ (x : Entry). x.call) (same_some _ e at) in
-    let line_is : Task Take ≡ e.call = same_some (Task Take) e.call line in
-    let wrong : Task Take ≡ Task Exit = line_is ∙ sym call in
+    let call : Call.Task TaskCall.Exit ≡ e.call = ap (λ (x : Entry). x.call) (same_some _ e at) in
+    let line_is : Call.Task TaskCall.Take ≡ e.call = same_some (Call.Task TaskCall.Take) e.call line in
+    let wrong : Call.Task TaskCall.Take ≡ Call.Task TaskCall.Exit = line_is ∙ sym call in
     cc
 other_line number (entry_of (suc i) e at own seq line) = cc
 other_line number (asked_of i a at own seq line) = cc
@@ -49,7 +49,7 @@ refused_line number (batch_of i b at own seq line) = cc
 refused_line number (entry_of i e at own seq line) = cc
 refused_line number (asked_of zero a at own seq line) =
     let said = subst (λ (x : AskedLine). IsAskedOfLine predefined (codes "init" ∷ []) (write_line (codes "_ _ r\n")) x.what) (sym (same_some _ a at)) line in
-    let wrong : ◌≡◌ {A = Result Compiled Refusal} (Ok (Rules (Set floor floor read ∷ []))) (Err (UnknownLabel 1)) = said.2 in
+    let wrong : ◌≡◌ {A = Result Compiled Refusal} (Ok (Compiled.Rules (RuleOp.Set floor floor read ∷ []))) (Err (Refusal.UnknownLabel 1)) = said.2 in
     cc
 refused_line number (asked_of (suc i) a at own seq line) = cc
 
@@ -60,14 +60,14 @@ refused fits =
 
 -- the writes of the text are those of the batch
 published_ops : (text : List ℕ) (number : ℕ) → IsRecorded text_published number (write_line text)
-    → IsBatchOfLine predefined (write_line text) (Set floor floor read ∷ [])
+    → IsBatchOfLine predefined (write_line text) (RuleOp.Set floor floor read ∷ [])
 published_ops text number (batch_of zero b at own seq line) =
     subst (λ (x : Batch). IsBatchOfLine predefined (write_line text) x.ops) (sym (same_some _ b at)) line
 published_ops text number (batch_of (suc i) b at own seq line) = cc
 published_ops text number (entry_of i e at own seq line) = cc
 published_ops text number (asked_of i a at own seq line) = cc
 
-published_line : (text : List ℕ) → FitsScript (write_line text ∷ []) text_published → IsBatchOfLine predefined (write_line text) (Set floor floor read ∷ [])
+published_line : (text : List ℕ) → FitsScript (write_line text ∷ []) text_published → IsBatchOfLine predefined (write_line text) (RuleOp.Set floor floor read ∷ [])
 published_line text fits =
     let own = fits.tasks (record { 0 = 0 }) (omega arith) in
     published_ops text own.number (own.recorded 0 (write_line text) refl refl)
@@ -80,7 +80,7 @@ bad : FitsScript (write_line (codes "_ _ z\n") ∷ []) text_published → ⊥
 bad fits = let wrong : ◌≡◌ {A = Bool} false true = ap is_good (published_line (codes "_ _ z\n") fits).1 in cc
 
 same_modes : (m n : Modes)
-    → ◌≡◌ {A = Result Compiled Refusal} (Ok (Rules (Set floor floor m ∷ []))) (Ok (Rules (Set floor floor n ∷ []))) → m ≡ n
+    → ◌≡◌ {A = Result Compiled Refusal} (Ok (Compiled.Rules (RuleOp.Set floor floor m ∷ []))) (Ok (Compiled.Rules (RuleOp.Set floor floor n ∷ []))) → m ≡ n
 same_modes m n is = cc
 
 writes : FitsScript (write_line (codes "_ _ w\n") ∷ []) text_published → ⊥

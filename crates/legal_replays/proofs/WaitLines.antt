@@ -6,7 +6,7 @@ use Rattle.std.proofs.lemmas.List.Folds.{list_any-append}
 use Rattle.smack_base.specs.declared.ids.Pid.{Pid}
 use Rattle.text_spec.specs.Names.{place_of, has_name}
 use Rattle.script_spec.specs.declared.Verb.{Verb}
-use Rattle.script_spec.specs.declared.Verb.TheVariants.{Wait}
+use Rattle.script_spec.specs.declared.Verb.TheVariants as Verb
 use Rattle.script_spec.specs.Words.{word_at}
 use Rattle.script_spec.specs.Lines.{ScriptLine, word_in, verb_in}
 use Rattle.script_spec.specs.Tasks.{TaskChange, Forks, Exits, Awaits, Keeps, change_by, change_of, forked_name, is_wait_for, has_wait, parents_in, task_names, tasks_of, is_latest_child}
@@ -86,11 +86,11 @@ found_place names word pid is = by (has_name names word) is
     by false is = cc
 
 pub wait_line : (above : List ScriptLine) (l : ScriptLine) (names rest : List (List ℕ)) (pid : Pid) → IsGoodLine above l
-    → names ≡ task_names (above ++ l ∷ []) ++ rest → verb_in l ≡ Some Wait → pid_in names (word_in 1 l) ≡ Some pid → IsWaitLine above l pid.0
+    → names ≡ task_names (above ++ l ∷ []) ++ rest → verb_in l ≡ Some Verb.Wait → pid_in names (word_in 1 l) ≡ Some pid → IsWaitLine above l pid.0
 wait_line above l names rest pid good whole verb is =
     let name = word_in 1 l in
     let all = task_names above in
-    let waits : good.verb ≡ Wait = same_verb good.verb Wait (sym (good_verb above l good) ∙ verb) in
+    let waits : good.verb ≡ Verb.Wait = same_verb good.verb Verb.Wait (sym (good_verb above l good) ∙ verb) in
     let behind : is_latest_child (tasks_of above) l.task (word_at 0 good.behind).bytes ≡ true =
     subst (λ v. is_wait_good (tasks_of above) l.task v good.behind ≡ true) waits good.wait in
     let word : name ≡ (word_at 0 good.behind).bytes = ap (λ ws. (word_at 1 ws).bytes) good.words in

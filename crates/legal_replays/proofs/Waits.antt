@@ -7,7 +7,7 @@ use Rattle.script_spec.specs.Lines.{ScriptLine}
 use Rattle.script_spec.specs.Tasks.{change_of, is_fork, has_wait, calls_by, parents_in, task_names, lineage}
 use Rattle.world_spec.specs.declared.Entry.{Entry}
 use Rattle.record_spec.specs.declared.AskedLine.{AskedLine}
-use Rattle.record_spec.specs.declared.AskedWhat.TheVariants.{Wait}
+use Rattle.record_spec.specs.declared.AskedWhat.TheVariants as AskedWhat
 use Rattle.replay_spec.specs.Plain.{IsNameTable}
 use Rattle.replay_spec.specs.Replays.{Run}
 use Rattle.legal_spec.specs.Calls.{Stands, Descends, itself, child, entry as entry_call}
@@ -144,13 +144,13 @@ module _ (labels names : List (List ℕ)) where
   }
 
   waits_are_told : IsNameTable names → (above : List ScriptLine) (run : Run) → Replays labels names above run → (i : ℕ) (a : AskedLine) (pid : Pid)
-      → Stands run.asked i a → a.what ≡ Wait pid → IsAwaited above run a pid
+      → Stands run.asked i a → a.what ≡ AskedWhat.Wait pid → IsAwaited above run a pid
   waits_are_told table lines now first i a pid at is = cc
   waits_are_told table lines now (more above l run after replays good in_step rest whole next) i a pid at is =
       by after next (waits_are_told table above run replays) at
     where
       by : (after : Run) → IsNext labels names run l after
-          → ((j : ℕ) (x : AskedLine) (p : Pid) → Stands run.asked j x → x.what ≡ Wait p → IsAwaited above run x p)
+          → ((j : ℕ) (x : AskedLine) (p : Pid) → Stands run.asked j x → x.what ≡ AskedWhat.Wait p → IsAwaited above run x p)
           → Stands after.asked i a → IsAwaited (above ++ l ∷ []) after a pid
       by after (batch ops of may) was at = old_wait above run after l replays good (batch ops of may) a pid (was i a pid at is)
       by after (entry call of) was at = old_wait above run after l replays good (entry call of) a pid (was i a pid at is)
@@ -159,8 +159,8 @@ module _ (labels names : List (List ℕ)) where
           elim (asked_more run.asked (asked_by run l what) i a at) [
             | inl old ↦ old_wait above run after l replays good next a pid (was old.0 a pid old.1 is)
             | inr new ↦
-                let what_is : what ≡ Wait pid = sym (ap (λ x. x.what) new) ∙ is in
-                let of_wait : IsAskedOfLine labels names l (Wait pid) = subst (λ w. IsAskedOfLine labels names l w) what_is of in
+                let what_is : what ≡ AskedWhat.Wait pid = sym (ap (λ x. x.what) new) ∙ is in
+                let of_wait : IsAskedOfLine labels names l (AskedWhat.Wait pid) = subst (λ w. IsAskedOfLine labels names l w) what_is of in
                 new_wait above run l replays good (forks_are_known labels names table above run replays) after refl
                 (more above l run after replays good in_step rest whole next) refl a (ap (λ x. x.task) new) (ap (λ x. x.seq) new)
                 (ap (λ x. x.version) new) pid (wait_line above l names rest pid good whole of_wait.0 of_wait.1)
@@ -168,7 +168,7 @@ module _ (labels names : List (List ℕ)) where
 
   -- each task that waited was told
   pub waits_are_fresh : IsNameTable names → (above : List ScriptLine) (run : Run) → Replays labels names above run
-      → (i : ℕ) (a : AskedLine) (pid : Pid) → Stands run.asked i a → a.what ≡ Wait pid → HasWaited (record_of labels names run) a pid
+      → (i : ℕ) (a : AskedLine) (pid : Pid) → Stands run.asked i a → a.what ≡ AskedWhat.Wait pid → HasWaited (record_of labels names run) a pid
   waits_are_fresh table above run replays i a pid at is =
       let forked = forks_are_known labels names table above run replays in
       let w = waits_are_told table above run replays i a pid at is in

@@ -1,12 +1,12 @@
 use Rattle.std.specs.Prelude.{◌≡◌, ℕ, List, [], ◌∷◌, Result, Ok, Err, codes}
-use Rattle.smack_base.specs.declared.rule_op.RuleOp.TheVariants.{Set}
+use Rattle.smack_base.specs.declared.rule_op.RuleOp.TheVariants as RuleOp
 use Rattle.rules_spec.specs.AskedModes.{read}
 use Rattle.script_spec.specs.declared.ScriptFault.{ScriptFault}
 use Rattle.script_spec.specs.Lines.{ScriptLine}
 use Rattle.script_spec.specs.Grammar.{parse}
-use Rattle.world_spec.specs.declared.TaskCall.TheVariants.{Fork}
-use Rattle.world_spec.specs.declared.Reply.TheVariants.{Child}
-use Rattle.record_spec.specs.declared.AskedWhat.TheVariants.{Ask, Wait}
+use Rattle.world_spec.specs.declared.TaskCall.TheVariants as TaskCall
+use Rattle.world_spec.specs.declared.Reply.TheVariants as Reply
+use Rattle.record_spec.specs.declared.AskedWhat.TheVariants as AskedWhat
 use Rattle.record_spec.specs.declared.RunRecord.{RunRecord}
 use Rattle.replay_spec.specs.Replays.{replayed}
 use Rattle.legal_spec.specs.Fits.{IsLegalFor}
@@ -25,8 +25,8 @@ script_lines = lines_read (parse script)
 
 -- the record of a run in which the child was faster than the parent's first question
 abbrev pub faster_child : RunRecord
-faster_child = record_of (published 1 1 (Set a_label c_label read) ∷ []) (entered 0 1 0 (Fork b_pid) (Child 1) ∷ [])
-    (asked_in 0 2 1 (Ask by_rule) ∷ asked_in 0 3 1 (Wait b_pid) ∷ asked_in 0 4 1 (Ask by_rule) ∷ [])
+faster_child = record_of (published 1 1 (RuleOp.Set a_label c_label read) ∷ []) (entered 0 1 0 (TaskCall.Fork b_pid) (Reply.Child 1) ∷ [])
+    (asked_in 0 2 1 (AskedWhat.Ask by_rule) ∷ asked_in 0 3 1 (AskedWhat.Wait b_pid) ∷ asked_in 0 4 1 (AskedWhat.Ask by_rule) ∷ [])
 
 -- Another order of a script's lines than that of its replay is legal for it.
 pub record OtherOrder : Type 0 where

@@ -1,26 +1,26 @@
 use Rattle.std.specs.Prelude.{ℕ, List, [], ◌∷◌, ◌++◌, true, false, codes}
 use Rattle.smack_base.specs.declared.ids.LabelId.{LabelId}
 use Rattle.smack_base.specs.declared.ids.Pid.{Pid}
-use Rattle.smack_base.specs.declared.cap.Cap.TheVariants.{MacAdmin}
+use Rattle.smack_base.specs.declared.cap.Cap.TheVariants as Cap
 use Rattle.smack_base.specs.declared.rule_op.RuleOp.{RuleOp}
-use Rattle.smack_base.specs.declared.rule_op.RuleOp.TheVariants.{Set, Revoke}
+use Rattle.smack_base.specs.declared.rule_op.RuleOp.TheVariants as RuleOp
 use Rattle.text_spec.specs.Names.{predefined}
 use Rattle.rules_spec.specs.AskedModes.{read}
 use Rattle.rules_spec.specs.Versions.{floor}
 use Rattle.rules_spec.specs.declared.Batch.{Batch}
 use Rattle.rules_spec.specs.declared.Verdict.{Verdict}
-use Rattle.file_spec.specs.declared.Refusal.TheVariants.{NotPrivileged, JournalFull}
-use Rattle.world_spec.specs.declared.Call.TheVariants.{Task, Tree}
+use Rattle.file_spec.specs.declared.Refusal.TheVariants as Refusal
+use Rattle.world_spec.specs.declared.Call.TheVariants as Call
 use Rattle.world_spec.specs.declared.TaskCall.{TaskCall}
-use Rattle.world_spec.specs.declared.TaskCall.TheVariants.{Fork, Exit, DropCap, Take}
-use Rattle.world_spec.specs.declared.TreeCall.TheVariants.{ListDir}
+use Rattle.world_spec.specs.declared.TaskCall.TheVariants as TaskCall
+use Rattle.world_spec.specs.declared.TreeCall.TheVariants as TreeCall
 use Rattle.world_spec.specs.declared.Reply.{Reply}
-use Rattle.world_spec.specs.declared.Reply.TheVariants.{Ok as Done, Child, Names, Refused as RefusedBy}
-use Rattle.world_spec.specs.declared.Why.TheVariants.{NoSuchTask, Again}
+use Rattle.world_spec.specs.declared.Reply.TheVariants as Reply
+use Rattle.world_spec.specs.declared.Why.TheVariants as Why
 use Rattle.world_spec.specs.declared.Entry.{Entry}
 use Rattle.record_spec.specs.declared.AskedLine.{AskedLine}
 use Rattle.record_spec.specs.declared.AskedWhat.{AskedWhat}
-use Rattle.record_spec.specs.declared.AskedWhat.TheVariants.{Ask, Refused, Wait}
+use Rattle.record_spec.specs.declared.AskedWhat.TheVariants as AskedWhat
 use Rattle.record_spec.specs.declared.RunRecord.{RunRecord}
 use Rattle.legal_spec.specs.Legal.{IsLegal}
 
@@ -55,7 +55,7 @@ abbrev pub entered : ℕ → ℕ → ℕ → TaskCall → Reply → Entry
 entered task seq version call reply = record {
   task = task;
   seq = seq;
-  call = Task call;
+  call = Call.Task call;
   version = version;
   checks = [];
   reply = reply;
@@ -73,55 +73,55 @@ without_rule = record { allowed = false; case = 7; over = 0; subject = a_label; 
 
 -- an ask in a version older than that of its task's own batch
 abbrev pub stale_ask : RunRecord
-stale_ask = record_of (published 0 1 (Set a_label c_label read) ∷ []) [] (asked_in 0 2 0 (Ask without_rule) ∷ [])
+stale_ask = record_of (published 0 1 (RuleOp.Set a_label c_label read) ∷ []) [] (asked_in 0 2 0 (AskedWhat.Ask without_rule) ∷ [])
 
 -- an ask with another answer than the ordered cases give in its version
 abbrev pub wrong_answer : RunRecord
-wrong_answer = record_of [] [] (asked_in 0 1 0 (Ask by_rule) ∷ [])
+wrong_answer = record_of [] [] (asked_in 0 1 0 (AskedWhat.Ask by_rule) ∷ [])
 
 -- a child that asks in a version older than that of the fork that made it
 abbrev pub stale_child : RunRecord
-stale_child = record_of (published 0 1 (Set a_label c_label read) ∷ []) (entered 0 2 1 (Fork b_pid) (Child 1) ∷ [])
-    (asked_in 1 1 0 (Ask without_rule) ∷ [])
+stale_child = record_of (published 0 1 (RuleOp.Set a_label c_label read) ∷ []) (entered 0 2 1 (TaskCall.Fork b_pid) (Reply.Child 1) ∷ [])
+    (asked_in 1 1 0 (AskedWhat.Ask without_rule) ∷ [])
 
 -- a wait in a version older than the one that the child reached by its batch
 abbrev pub early_wait : RunRecord
-early_wait = record_of (published 1 1 (Set a_label c_label read) ∷ []) (entered 0 1 0 (Fork b_pid) (Child 1) ∷ [])
-    (asked_in 0 2 0 (Wait b_pid) ∷ [])
+early_wait = record_of (published 1 1 (RuleOp.Set a_label c_label read) ∷ []) (entered 0 1 0 (TaskCall.Fork b_pid) (Reply.Child 1) ∷ [])
+    (asked_in 0 2 0 (AskedWhat.Wait b_pid) ∷ [])
 
 -- an object call of a waiter that stands before one of the task that it waited for
 abbrev pub early_entry : RunRecord
-early_entry = record_of [] (entered 0 1 0 (Fork b_pid) (Child 1) ∷ entered 0 3 0 Take (RefusedBy Again) ∷ entered 1 1 0 Exit Done ∷ [])
-    (asked_in 0 2 0 (Wait b_pid) ∷ [])
+early_entry = record_of [] (entered 0 1 0 (TaskCall.Fork b_pid) (Reply.Child 1) ∷ entered 0 3 0 TaskCall.Take (Reply.Refused Why.Again) ∷ entered 1 1 0 TaskCall.Exit Reply.Ok ∷ [])
+    (asked_in 0 2 0 (AskedWhat.Wait b_pid) ∷ [])
 
 -- an object call of a child before the fork that made it
 abbrev pub early_child : RunRecord
-early_child = record_of [] (entered 1 1 0 Take (RefusedBy NoSuchTask) ∷ entered 0 1 0 (Fork b_pid) (Child 1) ∷ []) []
+early_child = record_of [] (entered 1 1 0 TaskCall.Take (Reply.Refused Why.NoSuchTask) ∷ entered 0 1 0 (TaskCall.Fork b_pid) (Reply.Child 1) ∷ []) []
 
 -- batches that stand in another order than their task made them
 abbrev pub swapped_batches : RunRecord
-swapped_batches = record_of (published 0 2 (Revoke a_label) ∷ published 0 1 (Set a_label c_label read) ∷ []) [] []
+swapped_batches = record_of (published 0 2 (RuleOp.Revoke a_label) ∷ published 0 1 (RuleOp.Set a_label c_label read) ∷ []) [] []
 
 -- a batch of a task that gave CAP_MAC_ADMIN up
 abbrev pub unprivileged_batch : RunRecord
-unprivileged_batch = record_of (published 0 2 (Set a_label c_label read) ∷ []) (entered 0 1 0 (DropCap MacAdmin) Done ∷ []) []
+unprivileged_batch = record_of (published 0 2 (RuleOp.Set a_label c_label read) ∷ []) (entered 0 1 0 (TaskCall.DropCap Cap.MacAdmin) Reply.Ok ∷ []) []
 
 -- an object call in a version below that of the one before it, which another task made
 abbrev pub falling_version : RunRecord
-falling_version = record_of (published 0 2 (Set a_label c_label read) ∷ [])
-    (entered 0 1 0 (Fork b_pid) (Child 1) ∷ entered 0 3 1 Take (RefusedBy Again) ∷ entered 1 1 0 Take (RefusedBy Again) ∷ []) []
+falling_version = record_of (published 0 2 (RuleOp.Set a_label c_label read) ∷ [])
+    (entered 0 1 0 (TaskCall.Fork b_pid) (Reply.Child 1) ∷ entered 0 3 1 TaskCall.Take (Reply.Refused Why.Again) ∷ entered 1 1 0 TaskCall.Take (Reply.Refused Why.Again) ∷ []) []
 
 -- asked lines that stand in another order than their task asked them
 abbrev pub swapped_lines : RunRecord
-swapped_lines = record_of [] [] (asked_in 0 2 0 (Ask without_rule) ∷ asked_in 0 1 0 (Ask without_rule) ∷ [])
+swapped_lines = record_of [] [] (asked_in 0 2 0 (AskedWhat.Ask without_rule) ∷ asked_in 0 1 0 (AskedWhat.Ask without_rule) ∷ [])
 
 -- a call of a task that nobody made
 abbrev pub unknown_task : RunRecord
-unknown_task = record_of [] [] (asked_in 1 1 0 (Ask without_rule) ∷ [])
+unknown_task = record_of [] [] (asked_in 1 1 0 (AskedWhat.Ask without_rule) ∷ [])
 
 -- a call number that is left out
 abbrev pub missing_number : RunRecord
-missing_number = record_of [] (entered 0 2 0 Take (RefusedBy Again) ∷ []) []
+missing_number = record_of [] (entered 0 2 0 TaskCall.Take (Reply.Refused Why.Again) ∷ []) []
 
 -- two tasks of one name
 abbrev pub name_twice : RunRecord
@@ -129,17 +129,17 @@ name_twice = record (record_of [] [] []) { names = codes "init" ∷ codes "init"
 
 -- an object call with another reply than its step gives: no signal waits
 abbrev pub wrong_reply : RunRecord
-wrong_reply = record_of [] (entered 0 1 0 Take Done ∷ []) []
+wrong_reply = record_of [] (entered 0 1 0 TaskCall.Take Reply.Ok ∷ []) []
 
 -- the first task lists the root with these checks
 abbrev pub listed_with : List Verdict → RunRecord
 listed_with checks = record_of [] (record {
   task = 0;
   seq = 1;
-  call = Tree (ListDir [] 0);
+  call = Call.Tree (TreeCall.ListDir [] 0);
   version = 0;
   checks = checks;
-  reply = Names 0 [];
+  reply = Reply.Names 0 [];
 } ∷ []) []
 
 -- an object call with another check than its step makes, which is case 3, and one without it
@@ -151,29 +151,29 @@ missing_check = listed_with []
 
 -- an object call in a version that the journal lacks
 abbrev pub entry_beyond : RunRecord
-entry_beyond = record_of [] (entered 0 1 1 Take (RefusedBy Again) ∷ []) []
+entry_beyond = record_of [] (entered 0 1 1 TaskCall.Take (Reply.Refused Why.Again) ∷ []) []
 
 -- an ask in a version that the journal lacks
 abbrev pub ask_beyond : RunRecord
-ask_beyond = record_of [] [] (asked_in 0 1 1 (Ask without_rule) ∷ [])
+ask_beyond = record_of [] [] (asked_in 0 1 1 (AskedWhat.Ask without_rule) ∷ [])
 
 -- a write that is refused for want of the privilege that its task has
 abbrev pub privileged_refusal : RunRecord
-privileged_refusal = record_of [] [] (asked_in 0 1 0 (Refused (codes "load2") NotPrivileged) ∷ [])
+privileged_refusal = record_of [] [] (asked_in 0 1 0 (AskedWhat.Refused (codes "load2") Refusal.NotPrivileged) ∷ [])
 
 -- a write of self rules, which wants no privilege, that is refused for want of it
 abbrev pub own_file_refusal : RunRecord
-own_file_refusal = record_of [] (entered 0 1 0 (DropCap MacAdmin) Done ∷ [])
-    (asked_in 0 2 0 (Refused (codes "load-self2") NotPrivileged) ∷ [])
+own_file_refusal = record_of [] (entered 0 1 0 (TaskCall.DropCap Cap.MacAdmin) Reply.Ok ∷ [])
+    (asked_in 0 2 0 (AskedWhat.Refused (codes "load-self2") Refusal.NotPrivileged) ∷ [])
 
 -- a write that is refused for want of room beside more rows than the journal has
 abbrev pub wrong_rows : RunRecord
-wrong_rows = record_of [] [] (asked_in 0 1 0 (Refused (codes "load2") (JournalFull 1048576)) ∷ [])
+wrong_rows = record_of [] [] (asked_in 0 1 0 (AskedWhat.Refused (codes "load2") (Refusal.JournalFull 1048576)) ∷ [])
 
 -- a wait in a version older than the one that the child's child reached by its batch
 abbrev pub wait_below_grandchild : RunRecord
-wait_below_grandchild = record_of (published 2 1 (Set a_label c_label read) ∷ [])
-    (entered 0 1 0 (Fork b_pid) (Child 1) ∷ entered 1 1 0 (Fork c_pid) (Child 2) ∷ []) (asked_in 0 2 0 (Wait b_pid) ∷ [])
+wait_below_grandchild = record_of (published 2 1 (RuleOp.Set a_label c_label read) ∷ [])
+    (entered 0 1 0 (TaskCall.Fork b_pid) (Reply.Child 1) ∷ entered 1 1 0 (TaskCall.Fork c_pid) (Reply.Child 2) ∷ []) (asked_in 0 2 0 (AskedWhat.Wait b_pid) ∷ [])
 
 -- What the definitions refuse.
 pub record RefusedRecords : Type 0 where

@@ -1,17 +1,17 @@
 use Rattle.std.specs.Prelude.{ℕ, List, [], ◌∷◌, ◌++◌, codes}
-use Rattle.smack_base.specs.declared.rule_op.RuleOp.TheVariants.{Set}
+use Rattle.smack_base.specs.declared.rule_op.RuleOp.TheVariants as RuleOp
 use Rattle.text_spec.specs.Names.{predefined}
 use Rattle.rules_spec.specs.AskedModes.{read}
 use Rattle.rules_spec.specs.Versions.{floor}
 use Rattle.rules_spec.specs.declared.Batch.{Batch}
-use Rattle.file_spec.specs.declared.Refusal.TheVariants.{UnknownLabel}
+use Rattle.file_spec.specs.declared.Refusal.TheVariants as Refusal
 use Rattle.script_spec.specs.Lines.{ScriptLine}
-use Rattle.world_spec.specs.declared.TaskCall.TheVariants.{Exit, Take}
-use Rattle.world_spec.specs.declared.Reply.TheVariants.{Ok as Done, Refused as RefusedBy}
-use Rattle.world_spec.specs.declared.Why.TheVariants.{Again}
+use Rattle.world_spec.specs.declared.TaskCall.TheVariants as TaskCall
+use Rattle.world_spec.specs.declared.Reply.TheVariants as Reply
+use Rattle.world_spec.specs.declared.Why.TheVariants as Why
 use Rattle.world_spec.specs.declared.Entry.{Entry}
 use Rattle.record_spec.specs.declared.AskedLine.{AskedLine}
-use Rattle.record_spec.specs.declared.AskedWhat.TheVariants.{Refused}
+use Rattle.record_spec.specs.declared.AskedWhat.TheVariants as AskedWhat
 use Rattle.record_spec.specs.declared.RunRecord.{RunRecord}
 use Rattle.legal_spec.specs.Fits.{FitsScript}
 use Rattle.legal_replays.specs.RefusedRecords.{published, entered, asked_in}
@@ -46,7 +46,7 @@ one_task journal history asked = record {
 }
 
 abbrev pub taken : ℕ → Entry
-taken seq = entered 0 seq 0 Take (RefusedBy Again)
+taken seq = entered 0 seq 0 TaskCall.Take (Reply.Refused Why.Again)
 
 -- a record without the line, one that has it twice, and one that has another call in its place
 abbrev pub line_left_out : RunRecord
@@ -56,14 +56,14 @@ abbrev pub line_twice : RunRecord
 line_twice = one_task [] (taken 1 ∷ taken 2 ∷ []) []
 
 abbrev pub other_call : RunRecord
-other_call = one_task [] (entered 0 1 0 Exit Done ∷ []) []
+other_call = one_task [] (entered 0 1 0 TaskCall.Exit Reply.Ok ∷ []) []
 
 -- a text that is refused, and one that is published
 abbrev pub text_refused : RunRecord
-text_refused = one_task [] [] (asked_in 0 1 0 (Refused (codes "load2") (UnknownLabel 1)) ∷ [])
+text_refused = one_task [] [] (asked_in 0 1 0 (AskedWhat.Refused (codes "load2") (Refusal.UnknownLabel 1)) ∷ [])
 
 abbrev pub text_published : RunRecord
-text_published = one_task (published 0 1 (Set floor floor read) ∷ []) [] []
+text_published = one_task (published 0 1 (RuleOp.Set floor floor read) ∷ []) [] []
 
 -- a label, and a task, that the script does not name
 abbrev pub other_labels : RunRecord

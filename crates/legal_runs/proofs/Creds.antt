@@ -4,7 +4,7 @@ use Rattle.std.specs.List.{AllByRecursion}
 use Rattle.std.proofs.lemmas.Bool.{cases_Bool, eqb-true, le-ltb}
 use Rattle.rules_spec.specs.declared.Batch.{Batch}
 use Rattle.world_spec.specs.declared.Reply.{Reply}
-use Rattle.world_spec.specs.declared.Reply.TheVariants.{Ok as Done, Child, Signal, Names, Denied, Refused}
+use Rattle.world_spec.specs.declared.Reply.TheVariants as Reply
 use Rattle.world_spec.specs.declared.Entry.{Entry}
 use Rattle.world_spec.specs.Worlds.{World, world_first}
 use Rattle.world_spec.specs.Replays.{AreSteps, after_entry, makes, comes_before_call, cred_at}
@@ -33,15 +33,15 @@ stands_drop (suc m) n [] x s = cc
 stands_drop (suc m) n (y ∷ xs) x s =
     subst (λ i. Stands (y ∷ xs) i x) (let e : suc (m + n) ≡ suc m + n = omega arith in e) (stands_drop m n xs x s)
 
-makes_named : (k : ℕ) (r : Reply) → makes k r ≡ true → r ≡ Child k
-makes_named k Done is = cc
-makes_named k (Child n) is = ap (λ x. Child x) (eqb-true n k is)
-makes_named k (Signal sig) is = cc
-makes_named k (Names count names) is = cc
-makes_named k (Denied case) is = cc
-makes_named k (Refused why) is = cc
+makes_named : (k : ℕ) (r : Reply) → makes k r ≡ true → r ≡ Reply.Child k
+makes_named k Reply.Ok is = cc
+makes_named k (Reply.Child n) is = ap (λ x. Reply.Child x) (eqb-true n k is)
+makes_named k (Reply.Signal sig) is = cc
+makes_named k (Reply.Names count names) is = cc
+makes_named k (Reply.Denied case) is = cc
+makes_named k (Reply.Refused why) is = cc
 
-not_before : (k q : ℕ) (e : Entry) → (e.task ≡ k → q ≤ e.seq) → (e.reply ≡ Child k → ⊥) → comes_before_call k q e ≡ false
+not_before : (k q : ℕ) (e : Entry) → (e.task ≡ k → q ≤ e.seq) → (e.reply ≡ Reply.Child k → ⊥) → comes_before_call k q e ≡ false
 not_before k q e later none = both ((e.task == k) && nat_lt e.seq q) (makes k e.reply) own made
   where
     both : (a b : Bool) → a ≡ false → b ≡ false → (a || b) ≡ false
@@ -70,7 +70,7 @@ kept_all j k q front (e ∷ es) all =
 pub creds_are : (j : List Batch) (h : List Entry) (k q m : ℕ) → AreSteps j world_first h
     → ((n : ℕ) (e : Entry) → Stands h n e → n < m → e.task ≡ k → e.seq < q)
     → ((n : ℕ) (e : Entry) → Stands h n e → m ≤ n → e.task ≡ k → q ≤ e.seq)
-    → ((n : ℕ) (e : Entry) → Stands h n e → m ≤ n → e.reply ≡ Child k → ⊥) → cred_at j h k q ≡ creds_after j h k m
+    → ((n : ℕ) (e : Entry) → Stands h n e → m ≤ n → e.reply ≡ Reply.Child k → ⊥) → cred_at j h k q ≡ creds_after j h k m
 creds_are j h k q m steps before behind made =
     ap (λ x. cred_at j x k q) (sym (take-append-drop m h))
     ∙ (kept_all j k q (take m h) (drop m h)

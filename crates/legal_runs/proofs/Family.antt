@@ -2,11 +2,11 @@
 use Rattle.std.proofs.Common.{◌≡◌, ◌≢◌, ℕ, ◌≤◌, ◌⊎◌, List, [], ◌∷◌, ◌++◌, Bool, sym, refl, ap, ◌∙◌, subst, append_assoc, append-nil, arith, Option, Some, None, ⊎_elim, inl, inr, le_refl, eq-eqb, ne_eqb}
 use Rattle.smack_base.specs.declared.ids.Pid.{Pid}
 use Rattle.rules_spec.specs.declared.Batch.{Batch}
-use Rattle.world_spec.specs.declared.Call.TheVariants.{Task}
-use Rattle.world_spec.specs.declared.TaskCall.TheVariants.{Fork}
+use Rattle.world_spec.specs.declared.Call.TheVariants as Call
+use Rattle.world_spec.specs.declared.TaskCall.TheVariants as TaskCall
 use Rattle.world_spec.specs.declared.Entry.{Entry}
 use Rattle.record_spec.specs.declared.AskedLine.{AskedLine}
-use Rattle.record_spec.specs.declared.AskedWhat.TheVariants.{Wait}
+use Rattle.record_spec.specs.declared.AskedWhat.TheVariants as AskedWhat
 use Rattle.legal_spec.specs.Calls.{Stands, IsForkOf}
 use Rattle.live_table.specs.Lists.{Has, here, there}
 use Rattle.live_table.proofs.Lists.{has_left, has_right, has_either, those-append}
@@ -19,7 +19,7 @@ use Rattle.legal_runs.proofs.Deeds.{lines_of, AreOf, are-append, fits_are, over_
 use Rattle.legal_runs.proofs.Lives.{asked_by, Life}
 use Rattle.legal_runs.proofs.Kids.{kid_makes, below_child}
 
-same_wait : (p q : Pid) → Wait p ≡ Wait q → p ≡ q
+same_wait : (p q : Pid) → AskedWhat.Wait p ≡ AskedWhat.Wait q → p ≡ q
 same_wait p q is = cc
 
 one_line : (k : ℕ) (l : AskedLine) → l.task ≡ k → asked_by k (l ∷ []) ≡ l ∷ []
@@ -254,7 +254,7 @@ module _ (full : Bool) (s : Scripted) (j : List Batch) (h : List Entry) where
   lift_wait : (ls ls' : List AskedLine) (t t' : ℕ) (ds ds' : List Deed) (ns ns' : List ℕ) (zp zp' : ℕ) (l : AskedLine) (pid : Pid) → ((k : ℕ) → Has k ns → asked_by k ls' ≡ asked_by k ls) → ((k : ℕ) → Has k ns → Has k ns') → zp ≤ zp' → (w : Awaits_ ls t ds ns zp l pid) → (((l.task ≡ t) × Later w.bound l ds) → Waiter ls' t' ds' ns' l w.bound) → Awaits_ ls' t' ds' ns' zp' l pid
   lift_wait ls ls' t t' ds ds' ns ns' zp zp' l pid e m up w v = record { bound = w.bound; up = let x = w.up in omega arith; waiter = ⊎_elim v (λ b. inr (m l.task b.0, lift ls ls' l.task (e l.task b.0) b.1, b.2)) w.waiter; number = w.number; place = w.place; fork = w.fork; there_ = w.there_; by = w.by; is = w.is; fam = w.fam; mine = w.mine; within = λ k g. m k (w.within k g); lives = λ k g. raise ls ls' k l.version l.version w.bound w.bound (e k (w.within k g)) (le_refl l.version) (le_refl w.bound) (w.lives k g); closed = w.closed }
 
-  plain_wait : (d : Deed) (l : AskedLine) (pid : Pid) → IsPlain full d → Has l (asked_in d) → l.what ≡ Wait pid → ⊥
+  plain_wait : (d : Deed) (l : AskedLine) (pid : Pid) → IsPlain full d → Has l (asked_in d) → l.what ≡ AskedWhat.Wait pid → ⊥
   plain_wait (entered e n) l pid p g i = elim g [ ]
   plain_wait (batched n b m) l pid p g i = elim g [ ]
   plain_wait (answered x m) l pid p here i = subst IsNoWait i p
@@ -271,7 +271,7 @@ module _ (full : Bool) (s : Scripted) (j : List Batch) (h : List Entry) where
   rest_low : (t : ℕ) (e : Entry) (n pid x : ℕ) (o c : Run) (w : Option AskedLine) (r : Run) (a z : ℕ) (p : Part t (forks e n pid x o c w r) a z) (m : ℕ) → m ≤ p.placed.2 → (y : Entry) (i : ℕ) → Has (entered y i) (wait_deeds w ++ own r) → m ≤ i
   rest_low t e n pid x o c w r a z p m le y i g = ⊎_elim (λ u. absurd (no_wait_entry w y i u)) (λ u. let q = place_low_of p.placed.5 (own r) p.to_place y i (over_rises by_place place_clock p.placed.5 r p.to_place p.placed.7) u in let b = (end_place t e n pid x o c w r a z p).0 in omega arith) (has_either (wait_deeds w) (own r) g)
 
-  the_wait : (t : ℕ) (e : Entry) (n pid x : ℕ) (o c : Run) (w : Option AskedLine) (r : Run) (a z : ℕ) (p : Part t (forks e n pid x o c w r) a z) (l : AskedLine) (pid' : Pid) → Has l (waited w) → l.what ≡ Wait pid' → Awaits_ (all t e n pid x o c w r a z p) t (own (forks e n pid x o c w r)) (numbers o ++ ((x ∷ numbers c) ++ numbers r)) p.to_place l pid'
+  the_wait : (t : ℕ) (e : Entry) (n pid x : ℕ) (o c : Run) (w : Option AskedLine) (r : Run) (a z : ℕ) (p : Part t (forks e n pid x o c w r) a z) (l : AskedLine) (pid' : Pid) → Has l (waited w) → l.what ≡ AskedWhat.Wait pid' → Awaits_ (all t e n pid x o c w r a z p) t (own (forks e n pid x o c w r)) (numbers o ++ ((x ∷ numbers c) ++ numbers r)) p.to_place l pid'
   the_wait t e n pid x o c None r a z p l pid' g i = elim g [ ]
   the_wait t e n pid x o c (Some m) r a z p l pid' (there g) i = elim g [ ]
   the_wait t e n pid x o c (Some l) r a z p m pid' here i = record {
@@ -283,7 +283,7 @@ module _ (full : Bool) (s : Scripted) (j : List Batch) (h : List Entry) where
     fork = e;
     there_ = p.at.0;
     by = p.are.0 ∙ sym (are_w t e n pid x o c (Some l) r a z p).0;
-    is = (p.kids.0 ∙ ap (λ (q : Pid). Task (Fork q)) (same_wait (record { 0 = pid }) pid' (sym p.kids.2 ∙ i)), p.kids.1);
+    is = (p.kids.0 ∙ ap (λ (q : Pid). Call.Task (TaskCall.Fork q)) (same_wait (record { 0 = pid }) pid' (sym p.kids.2 ∙ i)), p.kids.1);
     fam = x ∷ numbers c;
     mine = here;
     within = λ k g. has_right (numbers o) (has_left (numbers r) g);
@@ -291,7 +291,7 @@ module _ (full : Bool) (s : Scripted) (j : List Batch) (h : List Entry) where
     closed = λ e' g y i' u k is. there (kid_makes full s j h x c e' k p.kids.5 p.made.0 g is (λ x' i'' b. below_child full s j h c p.kids.5 p.made.2 e' g k is x' i'' b) y i' u);
   }
 
-  pub waits_in : (t : ℕ) (r : Run) (a z : ℕ) (p : Part t r a z) (l : AskedLine) (pid : Pid) → Has l (asked_of r) → l.what ≡ Wait pid → Awaits_ (asked_of r) t (own r) (numbers r) p.to_place l pid
+  pub waits_in : (t : ℕ) (r : Run) (a z : ℕ) (p : Part t r a z) (l : AskedLine) (pid : Pid) → Has l (asked_of r) → l.what ≡ AskedWhat.Wait pid → Awaits_ (asked_of r) t (own r) (numbers r) p.to_place l pid
   unfolding part_d part_o part_c kid_life part_r
   waits_in t ends a z p l pid g i = elim g [ ]
   waits_in t (does d r) a z p l pid g i = ⊎_elim (λ u. absurd (plain_wait d l pid p.kids.0 u i))

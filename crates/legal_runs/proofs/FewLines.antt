@@ -3,9 +3,9 @@ use Rattle.std.proofs.Common.{◌≡◌, ℕ, ◌+◌, ◌-◌, ◌<◌, ◌≤�
 use Rattle.std.specs.Prelude.{nat_lt}
 use Rattle.std.proofs.lemmas.Bool.{ltb-false}
 use Rattle.text_spec.specs.Texts.{TextLine, lines_from}
-use Rattle.script_spec.specs.declared.What.TheVariants.{Bytes, Lines}
+use Rattle.script_spec.specs.declared.What.TheVariants as What
 use Rattle.script_spec.specs.declared.ScriptFault.{ScriptFault}
-use Rattle.script_spec.specs.declared.ScriptFault.TheVariants.{TooLarge}
+use Rattle.script_spec.specs.declared.ScriptFault.TheVariants as ScriptFault
 use Rattle.script_spec.specs.Lines.{ScriptLine}
 use Rattle.script_spec.specs.Grammar.{item_of, items, is_skipped, text_count, spaced_words, item_fault, call_of, calls_of, lines_fault, script_of, most_bytes, most_lines, parse}
 use Rattle.replay_spec.proofs.KnownLabels.{not_refused}
@@ -25,7 +25,7 @@ module _ (behind : Option ScriptFault) (lines : List ScriptLine) where
       call text' rest is =
           let i = item_of line l ls in
           let parts = no_fault (item_fault above i) (calls_of behind (above ++ call_of above i ∷ []) (items (line + 1) text' ls)) lines is in
-          let within = ltb-false most_lines line (within_limit (nat_lt most_lines line) (TooLarge Lines) _ parts.0) in
+          let within = ltb-false most_lines line (within_limit (nat_lt most_lines line) (ScriptFault.TooLarge What.Lines) _ parts.0) in
           let long = length-append above (call_of above i ∷ []) in
           rest text' (above ++ call_of above i ∷ []) (omega (arith, long, low)) (omega (arith, long, low, within)) parts.1
 
@@ -41,4 +41,4 @@ module _ (behind : Option ScriptFault) (lines : List ScriptLine) where
 pub few_lines : (bytes : List ℕ) (lines : List ScriptLine) → parse bytes ≡ Ok lines → length lines ≤ most_lines
 few_lines bytes lines is =
     few_calls (lines_fault (lines_from 0 bytes)) lines 1 0 (lines_from 0 bytes) [] (omega arith) (omega arith)
-    (not_refused (nat_lt most_bytes (length bytes)) (TooLarge Bytes) (script_of (lines_from 0 bytes)) lines is)
+    (not_refused (nat_lt most_bytes (length bytes)) (ScriptFault.TooLarge What.Bytes) (script_of (lines_from 0 bytes)) lines is)

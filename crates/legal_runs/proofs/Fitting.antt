@@ -3,18 +3,18 @@ use Rattle.std.proofs.Common.{◌≡◌, ℕ, zero, suc, ◌+◌, ◌<◌, List,
 use Rattle.atomic_table.specs.Seated.{TableId}
 use Rattle.smack_base.specs.declared.ids.Pid.{Pid}
 use Rattle.world_spec.specs.declared.Call.{Call}
-use Rattle.world_spec.specs.declared.Call.TheVariants.{Task}
-use Rattle.world_spec.specs.declared.TaskCall.TheVariants.{Fork}
-use Rattle.world_spec.specs.declared.Reply.TheVariants.{Child}
+use Rattle.world_spec.specs.declared.Call.TheVariants as Call
+use Rattle.world_spec.specs.declared.TaskCall.TheVariants as TaskCall
+use Rattle.world_spec.specs.declared.Reply.TheVariants as Reply
 use Rattle.world_spec.specs.declared.Entry.{Entry}
 use Rattle.script_spec.specs.declared.Verb.{Verb}
-use Rattle.script_spec.specs.declared.Verb.TheVariants.{Write, Ask as AskVerb, Wait as WaitVerb, Task as TaskVerbOf}
-use Rattle.script_spec.specs.declared.TaskVerb.TheVariants.{Fork as ForkVerb}
+use Rattle.script_spec.specs.declared.Verb.TheVariants as Verb
+use Rattle.script_spec.specs.declared.TaskVerb.TheVariants as TaskVerb
 use Rattle.script_spec.specs.Lines.{ScriptLine, word_in, verb_in, table_of}
 use Rattle.script_spec.specs.Tasks.{change_by, change_of, forked_name, task_names}
 use Rattle.record_spec.specs.declared.AskedLine.{AskedLine}
 use Rattle.record_spec.specs.declared.AskedWhat.{AskedWhat}
-use Rattle.record_spec.specs.declared.AskedWhat.TheVariants.{Ask, Refused, Wait}
+use Rattle.record_spec.specs.declared.AskedWhat.TheVariants as AskedWhat
 use Rattle.record_spec.specs.declared.RunRecord.{RunRecord}
 use Rattle.replay_spec.specs.Calls.{of_one, call_by, call_of_line}
 use Rattle.replay_spec.specs.Laws.{lines_of_task}
@@ -52,14 +52,14 @@ line_in (entered e n ∷ ds) a m (there h) = line_in ds a m h
 line_in (batched n b i ∷ ds) a m (there h) = line_in ds a m h
 
 asked_no_fork : (labels names : List (List ℕ)) (l : ScriptLine) (what : AskedWhat) → IsAskedOfLine labels names l what
-    → verb_in l ≡ Some (TaskVerbOf ForkVerb) → ⊥
-asked_no_fork labels names l (Ask v) is verb = absurd (let x : ◌≡◌ {A = Option Verb} (Some AskVerb) (Some (TaskVerbOf ForkVerb)) = sym is.0 ∙ verb in cc)
-asked_no_fork labels names l (Refused file fault) is verb = absurd (let x : ◌≡◌ {A = Option Verb} (Some Write) (Some (TaskVerbOf ForkVerb)) = sym is.0 ∙ verb in cc)
-asked_no_fork labels names l (Wait pid) is verb = absurd (let x : ◌≡◌ {A = Option Verb} (Some WaitVerb) (Some (TaskVerbOf ForkVerb)) = sym is.0 ∙ verb in cc)
+    → verb_in l ≡ Some (Verb.Task TaskVerb.Fork) → ⊥
+asked_no_fork labels names l (AskedWhat.Ask v) is verb = absurd (let x : ◌≡◌ {A = Option Verb} (Some Verb.Ask) (Some (Verb.Task TaskVerb.Fork)) = sym is.0 ∙ verb in cc)
+asked_no_fork labels names l (AskedWhat.Refused file fault) is verb = absurd (let x : ◌≡◌ {A = Option Verb} (Some Verb.Write) (Some (Verb.Task TaskVerb.Fork)) = sym is.0 ∙ verb in cc)
+asked_no_fork labels names l (AskedWhat.Wait pid) is verb = absurd (let x : ◌≡◌ {A = Option Verb} (Some Verb.Wait) (Some (Verb.Task TaskVerb.Fork)) = sym is.0 ∙ verb in cc)
 
 -- each fork of a history made a task
 abbrev pub ForksMade : List Entry → Type 0
-ForksMade history = (n : ℕ) (e : Entry) (pid : Pid) → Stands history n e → e.call ≡ Task (Fork pid) → (k : ℕ) × (e.reply ≡ Child k)
+ForksMade history = (n : ℕ) (e : Entry) (pid : Pid) → Stands history n e → e.call ≡ Call.Task (TaskCall.Fork pid) → (k : ℕ) × (e.reply ≡ Reply.Child k)
 
 module _ (lines : List ScriptLine) (good : AreGoodLines [] lines) (table : IsNameTable (task_names lines)) (left : List ScriptLine) (done : true ≡ true → left ≡ []) (t : TableId) (w : TaskValue) (g : Went true (scripted lines) (lines_by 0 lines) left (first_task t) w) (labels : List (List ℕ)) (closed : ClosedValue) (c : Closes labels w closed) (forked : ForksMade w.history) where
   abbrev h : List Entry
@@ -111,7 +111,7 @@ module _ (lines : List ScriptLine) (good : AreGoodLines [] lines) (table : IsNam
       in_lines : (F : ForkLine lines pid) → Has F.line lines
       in_lines F = subst (Has F.line) (sym F.is) (has_left F.behind (has_right F.front here))
 
-      line_forks : call_of_line (table_of lines) names F.line ≡ Some (Task (Fork (record { 0 = pid })))
+      line_forks : call_of_line (table_of lines) names F.line ≡ Some (Call.Task (TaskCall.Fork (record { 0 = pid })))
       line_forks =
           let rest = names_behind (F.front ++ F.line ∷ []) F.behind in
           let one : forked_name (change_of F.line) ≡ word_in 1 F.line ∷ [] = ap (λ v. forked_name (change_by v F.line)) F.verb in
@@ -119,14 +119,14 @@ module _ (lines : List ScriptLine) (good : AreGoodLines [] lines) (table : IsNam
           ∙ append_assoc (task_names F.front) (word_in 1 F.line ∷ []) rest.0)) in
           let found = next_pid names (task_names F.front) (word_in 1 F.line) rest.0 whole table in
           ap (call_by (table_of lines) names F.line) F.verb
-          ∙ ap (λ p. of_one (of_one p (λ x. Fork x)) (λ c. Task c)) (found ∙ ap (λ n. Some (record { 0 = n })) F.many)
+          ∙ ap (λ p. of_one (of_one p (λ x. TaskCall.Fork x)) (λ c. Call.Task c)) (found ∙ ap (λ n. Some (record { 0 = n })) F.many)
 
       by : (L : LifeOf k) (d : Deed) → Has d L.calls → Fits (scripted lines) k F.line.seq d F.line → (i : ℕ) × IsNumberOf h i (record { 0 = pid })
       by L (entered e n) u f =
           let st = at_of w.journal h k L.calls (entered e n) L.at u in
-          let call = same_call e.call (Task (Fork (record { 0 = pid }))) (sym f.2 ∙ line_forks) in
+          let call = same_call e.call (Call.Task (TaskCall.Fork (record { 0 = pid }))) (sym f.2 ∙ line_forks) in
           let child = forked n e (record { 0 = pid }) st call in (child.0, inr (n, e, st, (call, child.1)))
-      by L (batched n b m) u f = absurd (let x : ◌≡◌ {A = Option Verb} (Some Write) (Some (TaskVerbOf ForkVerb)) = sym f.2.0 ∙ F.verb in cc)
+      by L (batched n b m) u f = absurd (let x : ◌≡◌ {A = Option Verb} (Some Verb.Write) (Some (Verb.Task TaskVerb.Fork)) = sym f.2.0 ∙ F.verb in cc)
       by L (answered a m) u f = absurd (asked_no_fork (table_of lines) names F.line a.what f.2 F.verb)
 
   -- each pid of the script has a number

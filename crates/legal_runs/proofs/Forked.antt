@@ -2,9 +2,9 @@
 use Rattle.std.proofs.Common.{◌≡◌, ℕ, List, ◌∷◌, ◌++◌, true, false, sym, refl, ap, ◌∙◌, subst, ⊎_elim}
 use Rattle.smack_base.specs.declared.ids.Pid.{Pid}
 use Rattle.rules_spec.specs.declared.Batch.{Batch}
-use Rattle.world_spec.specs.declared.Call.TheVariants.{Task}
-use Rattle.world_spec.specs.declared.TaskCall.TheVariants.{Fork}
-use Rattle.world_spec.specs.declared.Reply.TheVariants.{Child}
+use Rattle.world_spec.specs.declared.Call.TheVariants as Call
+use Rattle.world_spec.specs.declared.TaskCall.TheVariants as TaskCall
+use Rattle.world_spec.specs.declared.Reply.TheVariants as Reply
 use Rattle.world_spec.specs.declared.Entry.{Entry}
 use Rattle.live_table.specs.Lists.{Has, here, there}
 use Rattle.live_table.proofs.Lists.{has_either}
@@ -17,25 +17,25 @@ use Rattle.legal_runs.proofs.Lists.{has_those}
 use Rattle.legal_runs.proofs.Kids.{no_entry}
 
 abbrev pub MadeOne : Entry → Type 0
-MadeOne e = (k : ℕ) × (e.reply ≡ Child k)
+MadeOne e = (k : ℕ) × (e.reply ≡ Reply.Child k)
 
-is_no_fork : (e : Entry) (pid : Pid) → is_fork e.call ≡ false → e.call ≡ Task (Fork pid) → ⊥
+is_no_fork : (e : Entry) (pid : Pid) → is_fork e.call ≡ false → e.call ≡ Call.Task (TaskCall.Fork pid) → ⊥
 is_no_fork e pid not is = absurd (let x : true ≡ false = sym (ap is_fork is) ∙ not in cc)
 
-module _ (s : Scripted) (j : List Batch) (h : List Entry) (e : Entry) (there_ : Has e h) (pid : Pid) (is : e.call ≡ Task (Fork pid)) where
+module _ (s : Scripted) (j : List Batch) (h : List Entry) (e : Entry) (there_ : Has e h) (pid : Pid) (is : e.call ≡ Call.Task (TaskCall.Fork pid)) where
   pub own_fork : (r : Run) → Kids true s r → Has e (entries_in (own r)) → MadeOne e
   own_fork ends q g = elim g [ ]
   own_fork (does (entered x n) r) q g = by x e g refl (q.0.1 refl) (own_fork r q.1) is
     where
       by : (x y : Entry) → Has y (x ∷ entries_in (own r)) → y ≡ e → is_fork x.call ≡ false → (Has e (entries_in (own r)) → MadeOne e)
-          → e.call ≡ Task (Fork pid) → MadeOne e
+          → e.call ≡ Call.Task (TaskCall.Fork pid) → MadeOne e
       by x y here same not rest is = absurd (is_no_fork x pid not (ap (λ (z : Entry). z.call) same ∙ is))
       by x y (there u) same not rest is = rest (subst (λ z. Has z (entries_in (own r))) same u)
   own_fork (does (batched n b m) r) q g = own_fork r q.1 g
   own_fork (does (answered l m) r) q g = own_fork r q.1 g
   own_fork (forks x n p y o c w r) q g = by x e g refl q.1 (own_fork o q.4) (own_fork r q.6)
     where
-      by : (x z : Entry) → Has z (x ∷ entries_in (own o ++ (wait_deeds w ++ own r))) → z ≡ e → x.reply ≡ Child y
+      by : (x z : Entry) → Has z (x ∷ entries_in (own o ++ (wait_deeds w ++ own r))) → z ≡ e → x.reply ≡ Reply.Child y
           → (Has e (entries_in (own o)) → MadeOne e) → (Has e (entries_in (own r)) → MadeOne e) → MadeOne e
       by x z here same made mine after = (y, ap (λ (u : Entry). u.reply) (sym same) ∙ made)
       by x z (there g) same made mine after =

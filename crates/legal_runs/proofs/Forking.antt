@@ -5,8 +5,8 @@ use Rattle.atomic_table.specs.Seated.{TableId}
 use Rattle.smack_base.specs.declared.ids.Pid.{Pid}
 use Rattle.rules_spec.specs.declared.Batch.{Batch}
 use Rattle.world_spec.specs.declared.Call.{Call}
-use Rattle.world_spec.specs.declared.Call.TheVariants.{Task}
-use Rattle.world_spec.specs.declared.TaskCall.TheVariants.{Fork}
+use Rattle.world_spec.specs.declared.Call.TheVariants as Call
+use Rattle.world_spec.specs.declared.TaskCall.TheVariants as TaskCall
 use Rattle.world_spec.specs.declared.Entry.{Entry}
 use Rattle.world_spec.specs.Worlds.{TaskRow, world_first, was_made, is_live, most_tasks}
 use Rattle.world_spec.specs.Steps.{step}
@@ -117,7 +117,7 @@ module _ (lines : List ScriptLine) (good : AreGoodLines [] lines) (table : IsNam
       live_behind e.task j world_first h b.1 n b.0 e (record { 0 = L.pid }) c.steps b.2 b.3 (let x = b.5 in omega arith) st (no_exit n e st)) L.born
 
   -- a fork's pid, by its line
-  fork_pid : (e : Entry) (p : ℕ) (a : Lined e p) (pid : Pid) → e.call ≡ Task (Fork pid)
+  fork_pid : (e : Entry) (p : ℕ) (a : Lined e p) (pid : Pid) → e.call ≡ Call.Task (TaskCall.Fork pid)
       → (pid.0 ≡ length (task_names a.front)) × (length (task_names (a.front ++ a.line ∷ [])) ≡ pid.0 + 1)
   fork_pid e p a pid forks =
       new_pid (table_of lines) (task_names lines) a.front a.behind a.line pid table (ap task_names a.is) (a.call ∙ ap (λ (call : Call). Some call) forks)
@@ -130,7 +130,7 @@ module _ (lines : List ScriptLine) (good : AreGoodLines [] lines) (table : IsNam
       omega (arith, (fork_pid x L.pid a pid forks).1, (good_line x L.pid a).few)
 
   -- no task of its pid was made before it
-  is_new : (n : ℕ) (e : Entry) (pid : Pid) → Stands h n e → e.call ≡ Task (Fork pid)
+  is_new : (n : ℕ) (e : Entry) (pid : Pid) → Stands h n e → e.call ≡ Call.Task (TaskCall.Fork pid)
       → was_made (world_before j world_first h n).tasks pid ≡ false
   is_new n e pid st forks = ⊎_elim (λ made. absurd (⊎_elim (λ first. not_first (one_pid pid.0 0 first)) not_other
       (made_by j world_first h n e pid.0 c.steps st (made_pid (world_before j world_first h n).tasks pid made)))) (λ new. new)
@@ -162,7 +162,7 @@ module _ (lines : List ScriptLine) (good : AreGoodLines [] lines) (table : IsNam
     below = λ p i. omega (arith, one_pid p 0 i);
   }
 
-  has_room : (n : ℕ) (e : Entry) (pid : Pid) → Stands h n e → e.call ≡ Task (Fork pid)
+  has_room : (n : ℕ) (e : Entry) (pid : Pid) → Stands h n e → e.call ≡ Call.Task (TaskCall.Fork pid)
       → nat_le most_tasks (length (world_before j world_first h n).tasks) ≡ false
   has_room n e pid st forks =
       let rows : List TaskRow = (world_before j world_first h n).tasks in

@@ -1,7 +1,7 @@
 -- What a legal history says of its entries.
 use Rattle.std.proofs.Common.{◌≡◌, ℕ, zero, suc, ◌+◌, ◌<◌, ◌≤◌, List, [], ◌∷◌, sym, refl, ap, ◌∙◌, subst, arith, Some}
 use Rattle.world_spec.specs.declared.Reply.{Reply}
-use Rattle.world_spec.specs.declared.Reply.TheVariants.{Ok as Done, Child, Signal, Names, Denied, Refused}
+use Rattle.world_spec.specs.declared.Reply.TheVariants as Reply
 use Rattle.world_spec.specs.declared.Entry.{Entry}
 use Rattle.std.specs.List.{slice_get}
 use Rattle.legal_spec.specs.Calls.{Stands}
@@ -10,13 +10,13 @@ use Rattle.smack_kernel.specs.Histories.{world_means, child_of}
 use Rattle.legal_runs.proofs.Lists.{same_some}
 
 -- a reply that names a child
-pub child_named : (r : Reply) (k : ℕ) → child_of r ≡ Some k → r ≡ Child k
-child_named Done k is = cc
-child_named (Child n) k is = cc
-child_named (Signal sig) k is = cc
-child_named (Names count names) k is = cc
-child_named (Denied case) k is = cc
-child_named (Refused why) k is = cc
+pub child_named : (r : Reply) (k : ℕ) → child_of r ≡ Some k → r ≡ Reply.Child k
+child_named Reply.Ok k is = cc
+child_named (Reply.Child n) k is = cc
+child_named (Reply.Signal sig) k is = cc
+child_named (Reply.Names count names) k is = cc
+child_named (Reply.Denied case) k is = cc
+child_named (Reply.Refused why) k is = cc
 
 -- children have rising numbers
 pub child_above : (c v n : ℕ) (es : List Entry) (e : Entry) (k : ℕ) → LegalFrom world_means c v es → Stands es n e → child_of e.reply ≡ Some k

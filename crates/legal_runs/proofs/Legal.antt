@@ -5,20 +5,20 @@ use native.Mathlib.Decide.{ℕ_discrete}
 use Rattle.std.specs.Prelude.{is_some}
 use Rattle.atomic_table.specs.Seated.{TableId}
 use Rattle.smack_base.specs.declared.ids.Pid.{Pid}
-use Rattle.smack_base.specs.declared.cap.Cap.TheVariants.{MacAdmin}
+use Rattle.smack_base.specs.declared.cap.Cap.TheVariants as Cap
 use Rattle.rules_spec.specs.declared.Batch.{Batch}
 use Rattle.rules_spec.specs.Creds.{is_effective}
 use Rattle.file_spec.specs.declared.Refusal.{Refusal}
-use Rattle.file_spec.specs.declared.Refusal.TheVariants.{NoSuchFile, TooLong, BadLine, UnknownLabel, NotPrivileged, JournalFull}
+use Rattle.file_spec.specs.declared.Refusal.TheVariants as Refusal
 use Rattle.file_spec.specs.Writes.{rule_file}
-use Rattle.world_spec.specs.declared.Reply.TheVariants.{Child}
+use Rattle.world_spec.specs.declared.Reply.TheVariants as Reply
 use Rattle.world_spec.specs.declared.Entry.{Entry}
 use Rattle.world_spec.specs.Replays.{version_of, cred_at}
 use Rattle.script_spec.specs.Lines.{ScriptLine, word_in, table_of}
 use Rattle.script_spec.specs.Tasks.{task_names}
 use Rattle.record_spec.specs.declared.AskedLine.{AskedLine}
 use Rattle.record_spec.specs.declared.AskedWhat.{AskedWhat}
-use Rattle.record_spec.specs.declared.AskedWhat.TheVariants.{Ask, Refused, Wait}
+use Rattle.record_spec.specs.declared.AskedWhat.TheVariants as AskedWhat
 use Rattle.record_spec.specs.declared.RunRecord.{RunRecord}
 use Rattle.replay_spec.specs.Plain.{IsNameTable}
 use Rattle.plain_records.proofs.Tasks.{names_are_a_table}
@@ -179,12 +179,12 @@ module _ (full : Bool) (s : Scripted) (left : List ScriptLine) (done : full ≡ 
   named k L = ⊎_elim (λ z. inl (z.0, z.1)) (λ b. inr (b.1, b.0, b.2, b.3)) L.born
 
   -- a fork that makes a task stands before its first place, in a version that its calls need
-  pub fork_first : (n : ℕ) (e : Entry) (k : ℕ) → Stands h n e → e.reply ≡ Child k → (L : Life full s j h ls k) → n + 1 ≤ L.place_low
+  pub fork_first : (n : ℕ) (e : Entry) (k : ℕ) → Stands h n e → e.reply ≡ Reply.Child k → (L : Life full s j h ls k) → n + 1 ≤ L.place_low
   fork_first n e k st is L =
       ⊎_elim (λ z. absurd (let y = (child_above 0 0 n h e k c.legal st (ap child_of is)).0 in let x = z.0 in omega arith))
       (λ b. let same = one_child 0 0 n b.1 h e b.0 k c.legal st b.2 (ap child_of is) (ap child_of b.3.1) in let x = b.5 in omega arith) L.born
 
-  fork_low : (n : ℕ) (e : Entry) (k : ℕ) → Stands h n e → e.reply ≡ Child k → (L : Life full s j h ls k) → e.version ≤ L.low
+  fork_low : (n : ℕ) (e : Entry) (k : ℕ) → Stands h n e → e.reply ≡ Reply.Child k → (L : Life full s j h ls k) → e.version ≤ L.low
   fork_low n e k st is L =
       ⊎_elim (λ z. absurd (let y = (child_above 0 0 n h e k c.legal st (ap child_of is)).0 in let x = z.0 in omega arith))
       (λ b.
@@ -273,29 +273,29 @@ module _ (full : Bool) (s : Scripted) (left : List ScriptLine) (done : full ≡ 
       let d = batch_deed full s j h ls b.task L i b st refl in
       let at = at_of j h b.task L.calls (batched i b d.0) L.at d.1 in
       let creds = creds_seen b.task L (batched i b d.0) d.0 (record { clock = λ x y r. r; other = λ e n z. cc }) d.1 in
-      ap (λ x. is_effective x MacAdmin (version_of j i)) creds ∙ at.2
+      ap (λ x. is_effective x Cap.MacAdmin (version_of j i)) creds ∙ at.2
 
   so_refused : (a : AskedLine) (L : Life full s j h ls a.task) (m : ℕ) → Has (answered a m) L.calls → (l : ScriptLine) (file : List ℕ)
-      (fault : Refusal) → a.what ≡ Refused file fault → IsTrueRefusal j h a.task m a.version fault
-      → IsAskedOfLine s.labels s.names l (Refused file fault) → IsRefused record_of a file fault
-  so_refused a L m u l file NoSuchFile is so line = tt
-  so_refused a L m u l file TooLong is so line = tt
-  so_refused a L m u l file (BadLine bad) is so line = tt
-  so_refused a L m u l file (UnknownLabel n) is so line = tt
-  so_refused a L m u l file NotPrivileged is so line = (
+      (fault : Refusal) → a.what ≡ AskedWhat.Refused file fault → IsTrueRefusal j h a.task m a.version fault
+      → IsAskedOfLine s.labels s.names l (AskedWhat.Refused file fault) → IsRefused record_of a file fault
+  so_refused a L m u l file Refusal.NoSuchFile is so line = tt
+  so_refused a L m u l file Refusal.TooLong is so line = tt
+  so_refused a L m u l file (Refusal.BadLine bad) is so line = tt
+  so_refused a L m u l file (Refusal.UnknownLabel n) is so line = tt
+  so_refused a L m u l file Refusal.NotPrivileged is so line = (
     subst (λ x. is_some (rule_file x) ≡ true) (sym line.1) (rules_of_file s.labels (word_in 1 l) l.text.bytes line.2.0 line.2.1),
-    ap (λ x. is_effective x MacAdmin (version_of j a.version))
+    ap (λ x. is_effective x Cap.MacAdmin (version_of j a.version))
         (creds_seen a.task L (answered a m) m (record { clock = λ x y r. subst (λ q. IsSeen q x m y) is r.1; other = λ e n z. cc }) u)
         ∙ so.1,
   )
-  so_refused a L m u l file (JournalFull rows) is so line =
+  so_refused a L m u l file (Refusal.JournalFull rows) is so line =
       (subst (λ x. is_some (rule_file x) ≡ true) (sym line.1) (rules_of_file s.labels (word_in 1 l) l.text.bytes line.2.0 line.2.1), so)
 
   is_so : (a : AskedLine) (L : Life full s j h ls a.task) (m : ℕ) → Has (answered a m) L.calls → (l : ScriptLine) (what : AskedWhat)
       → a.what ≡ what → IsTrueAnswer j h a.task m a.version what → IsAskedOfLine s.labels s.names l what → IsSo record_of a what
-  is_so a L m u l (Ask v) is so line = so
-  is_so a L m u l (Refused file fault) is so line = so_refused a L m u l file fault is so line
-  is_so a L m u l (Wait pid) is so line = tt
+  is_so a L m u l (AskedWhat.Ask v) is so line = so
+  is_so a L m u l (AskedWhat.Refused file fault) is so line = so_refused a L m u l file fault is so line
+  is_so a L m u l (AskedWhat.Wait pid) is so line = tt
 
   -- the asked, refused and waited lines
   pub are_answered : AreAnswered record_of
@@ -325,7 +325,7 @@ module _ (full : Bool) (s : Scripted) (left : List ScriptLine) (done : full ≡ 
       whole b =
           later_place full s j h told a.task b.0 a m b.1 e n (entry_deed full s j h told a.task b.0 n e st is) lt
 
-  pub has_waited : (i : ℕ) (a : AskedLine) (pid : Pid) → Stands ls i a → a.what ≡ Wait pid → HasWaited record_of a pid
+  pub has_waited : (i : ℕ) (a : AskedLine) (pid : Pid) → Stands ls i a → a.what ≡ AskedWhat.Wait pid → HasWaited record_of a pid
   has_waited i a pid st is =
       let W = waits_in full s j h 0 g.run 0 w.version root a pid (order_has told a (stands_has ls i a st)) is in
       record {

@@ -2,9 +2,9 @@
 use Rattle.std.proofs.Common.{◌≡◌, ℕ, ◌==◌, ◌||◌, List, Bool, false, sym, ap, ◌∙◌, arith, ⊎_elim}
 use Rattle.smack_base.specs.declared.ids.Pid.{Pid}
 use Rattle.rules_spec.specs.declared.Batch.{Batch}
-use Rattle.world_spec.specs.declared.Call.TheVariants.{Task}
-use Rattle.world_spec.specs.declared.TaskCall.TheVariants.{Fork}
-use Rattle.world_spec.specs.declared.Reply.TheVariants.{Child}
+use Rattle.world_spec.specs.declared.Call.TheVariants as Call
+use Rattle.world_spec.specs.declared.TaskCall.TheVariants as TaskCall
+use Rattle.world_spec.specs.declared.Reply.TheVariants as Reply
 use Rattle.world_spec.specs.declared.Entry.{Entry}
 use Rattle.world_spec.specs.Worlds.{world_first}
 use Rattle.world_spec.specs.Replays.{AreSteps}
@@ -17,7 +17,7 @@ use Rattle.legal_runs.proofs.Lives.{Life}
 use Rattle.legal_runs.proofs.Histories.{child_above, one_child, same_stand}
 use Rattle.legal_runs.proofs.Pids.{no_fork, one_fork}
 
-same_pid : (a b : Pid) → Task (Fork a) ≡ Task (Fork b) → a ≡ b
+same_pid : (a b : Pid) → Call.Task (TaskCall.Fork a) ≡ Call.Task (TaskCall.Fork b) → a ≡ b
 same_pid a b is = cc
 
 module _ (full : Bool) (s : Scripted) (j : List Batch) (h : List Entry) (ls : List AskedLine) (steps : AreSteps j world_first h)
@@ -43,7 +43,7 @@ module _ (full : Bool) (s : Scripted) (j : List Batch) (h : List Entry) (ls : Li
       let same = same_stand h a.0 b.0 a.1 b.1 place a.2 b.2 in
       same_child k i (sym a.3.1 ∙ (ap (λ (e : Entry). e.reply) same ∙ b.3.1))) it) is
     where
-      same_child : (x y : ℕ) → Child x ≡ Child y → x ≡ y
+      same_child : (x y : ℕ) → Reply.Child x ≡ Reply.Child y → x ≡ y
       same_child x y e = cc
 
       first : (p : Pid) → p.0 ≡ 0 → (n : ℕ) (e : Entry) (k : ℕ) → Stands h n e → IsForkOf e k p → ⊥

@@ -6,8 +6,8 @@ use Rattle.std.proofs.lemmas.Bool.{eqb-true, eq-eqb, ne_eqb, ltb-true, and_parts
 use Rattle.smack_base.specs.Modes.{modes_of}
 use Rattle.text_spec.specs.Names.{place_of, has_name}
 use Rattle.script_spec.specs.declared.Verb.{Verb}
-use Rattle.script_spec.specs.declared.Verb.TheVariants.{Write, Ask, Wait, Task, Tree}
-use Rattle.script_spec.specs.declared.TaskVerb.TheVariants.{Fork, Exit, Relabel, Drop, Kill, Take, Trace}
+use Rattle.script_spec.specs.declared.Verb.TheVariants as Verb
+use Rattle.script_spec.specs.declared.TaskVerb.TheVariants as TaskVerb
 use Rattle.script_spec.specs.Words.{word_at}
 use Rattle.script_spec.specs.Lines.{ScriptLine, word_in, table_of}
 use Rattle.script_spec.specs.Tasks.{Tasks, TaskChange, Forks, Exits, Awaits, Keeps, change_by, change_of, forked_name, is_wait_for, task_names, tasks_of, latest_child, is_pid, is_latest_child}
@@ -175,23 +175,23 @@ module _ (above : List ScriptLine) (l : ScriptLine) (good : IsGoodLine above l) 
   abbrev IsGoodWait : Verb → Type 0
   IsGoodWait verb = is_wait_good tasks l.task verb good.behind ≡ true
 
-  latest : IsGoodWait Wait → is_latest_child tasks l.task name ≡ true
+  latest : IsGoodWait Verb.Wait → is_latest_child tasks l.task name ≡ true
   latest wait =
       subst (λ (w : List ℕ). is_latest_child tasks l.task w ≡ true) (sym (ap (λ ws. (word_at 1 ws).bytes) good.words)) wait
 
   -- a task that it waits for is there
   there_by : (verb : Verb) → IsGoodWait verb → IsWaitThere tasks (change_by (Some verb) l)
-  there_by Write wait = tt
-  there_by Ask wait = tt
-  there_by Wait wait = ltb-true (place_of tasks.names name) (length tasks.names) (child_has_name above l.task name (latest wait))
-  there_by (Task Fork) wait = tt
-  there_by (Task Exit) wait = tt
-  there_by (Task Relabel) wait = tt
-  there_by (Task Drop) wait = tt
-  there_by (Task Kill) wait = tt
-  there_by (Task Take) wait = tt
-  there_by (Task Trace) wait = tt
-  there_by (Tree verb) wait = tt
+  there_by Verb.Write wait = tt
+  there_by Verb.Ask wait = tt
+  there_by Verb.Wait wait = ltb-true (place_of tasks.names name) (length tasks.names) (child_has_name above l.task name (latest wait))
+  there_by (Verb.Task TaskVerb.Fork) wait = tt
+  there_by (Verb.Task TaskVerb.Exit) wait = tt
+  there_by (Verb.Task TaskVerb.Relabel) wait = tt
+  there_by (Verb.Task TaskVerb.Drop) wait = tt
+  there_by (Verb.Task TaskVerb.Kill) wait = tt
+  there_by (Verb.Task TaskVerb.Take) wait = tt
+  there_by (Verb.Task TaskVerb.Trace) wait = tt
+  there_by (Verb.Tree verb) wait = tt
 
   wait_there : IsWaitThere tasks (change_of l)
   wait_there = subst (λ v. IsWaitThere tasks (change_by v l)) (sym (good_verb above l good)) (there_by good.verb good.wait)
@@ -199,21 +199,21 @@ module _ (above : List ScriptLine) (l : ScriptLine) (good : IsGoodLine above l) 
   -- it leaves the children of other tasks as they were
   module _ (p : ℕ) (apart : (l.task == p) ≡ false) where
     other_by : (verb : Verb) → IsGoodWait verb → open_in (after verb) p ≡ open_in tasks p
-    other_by Write wait = kept tasks p
-    other_by Ask wait = kept tasks p
-    other_by Wait wait =
-        others_left tasks.awaited (after Wait).awaited (place_of tasks.names name) tasks.parents l.task p (λ n low. refl) (latest wait) apart
-    other_by (Task Fork) wait =
-        ap (λ (t : Bool). if t && not ((after (Task Fork)).awaited (length (l.task ∷ tasks.parents)))
-        then length (l.task ∷ tasks.parents) ∷ children (after (Task Fork)).awaited tasks.parents p
-        else children (after (Task Fork)).awaited tasks.parents p) apart ∙ kept tasks p
-    other_by (Task Exit) wait = kept tasks p
-    other_by (Task Relabel) wait = kept tasks p
-    other_by (Task Drop) wait = kept tasks p
-    other_by (Task Kill) wait = kept tasks p
-    other_by (Task Take) wait = kept tasks p
-    other_by (Task Trace) wait = kept tasks p
-    other_by (Tree verb) wait = kept tasks p
+    other_by Verb.Write wait = kept tasks p
+    other_by Verb.Ask wait = kept tasks p
+    other_by Verb.Wait wait =
+        others_left tasks.awaited (after Verb.Wait).awaited (place_of tasks.names name) tasks.parents l.task p (λ n low. refl) (latest wait) apart
+    other_by (Verb.Task TaskVerb.Fork) wait =
+        ap (λ (t : Bool). if t && not ((after (Verb.Task TaskVerb.Fork)).awaited (length (l.task ∷ tasks.parents)))
+        then length (l.task ∷ tasks.parents) ∷ children (after (Verb.Task TaskVerb.Fork)).awaited tasks.parents p
+        else children (after (Verb.Task TaskVerb.Fork)).awaited tasks.parents p) apart ∙ kept tasks p
+    other_by (Verb.Task TaskVerb.Exit) wait = kept tasks p
+    other_by (Verb.Task TaskVerb.Relabel) wait = kept tasks p
+    other_by (Verb.Task TaskVerb.Drop) wait = kept tasks p
+    other_by (Verb.Task TaskVerb.Kill) wait = kept tasks p
+    other_by (Verb.Task TaskVerb.Take) wait = kept tasks p
+    other_by (Verb.Task TaskVerb.Trace) wait = kept tasks p
+    other_by (Verb.Tree verb) wait = kept tasks p
 
     other_open : open_in (behind_line above l) p ≡ open_in tasks p
     other_open = subst (λ v. open_in (tasks_after tasks l.task (change_by v l)) p ≡ open_in tasks p) (sym (good_verb above l good))
@@ -230,7 +230,7 @@ module _ (above : List ScriptLine) (l : ScriptLine) (good : IsGoodLine above l) 
     keeps : Some (open_in tasks l.task) ≡ Some (children (λ t. tasks.awaited t || false) tasks.parents l.task)
     keeps = ap (λ (o : List ℕ). Some o) (sym (kept tasks l.task))
 
-    forks : IsSplit (Task Fork) → IsOpen (Task Fork)
+    forks : IsSplit (Verb.Task TaskVerb.Fork) → IsOpen (Verb.Task TaskVerb.Fork)
     forks split =
         let n = length (l.task ∷ tasks.parents) in
         let many : length tasks.names ≡ n = omega (arith, parents_many above) in
@@ -243,10 +243,10 @@ module _ (above : List ScriptLine) (l : ScriptLine) (good : IsGoodLine above l) 
         ap (with_open (open_in tasks l.task)) found
         ∙ (ap (λ (t : Bool). if t then None else Some (n ∷ open_in tasks l.task)) new
         ∙ (ap (λ (o : List ℕ). Some (n ∷ o)) (sym (kept tasks l.task))
-        ∙ sym (ap (λ (t : Bool). Some (if t then n ∷ children (after (Task Fork)).awaited tasks.parents l.task
-        else children (after (Task Fork)).awaited tasks.parents l.task)) test)))
+        ∙ sym (ap (λ (t : Bool). Some (if t then n ∷ children (after (Verb.Task TaskVerb.Fork)).awaited tasks.parents l.task
+        else children (after (Verb.Task TaskVerb.Fork)).awaited tasks.parents l.task)) test)))
 
-    closes : IsGoodWait Wait → IsSplit Wait → IsOpen Wait
+    closes : IsGoodWait Verb.Wait → IsSplit Verb.Wait → IsOpen Verb.Wait
     closes wait split =
         let c = place_of tasks.names name in
         let has = child_has_name above l.task name (latest wait) in
@@ -255,22 +255,22 @@ module _ (above : List ScriptLine) (l : ScriptLine) (good : IsGoodLine above l) 
         ap (λ ns. place_of ns name) split ∙ place_kept tasks.names rest name (ltb-true c (length tasks.names) has) in
         let found : pid_in names name ≡ Some (record { 0 = c }) =
         λ i. if known i then Some (record { 0 = place i }) else None in
-        let own = own_left tasks.awaited (after Wait).awaited c tasks.parents l.task (λ n low. refl) (latest wait) in
+        let own = own_left tasks.awaited (after Verb.Wait).awaited c tasks.parents l.task (λ n low. refl) (latest wait) in
         (λ i. without_open (own i) (found i))
-        ∙ ap (λ (t : Bool). if t then Some (open_in (after Wait) l.task) else None) (eq-eqb c c refl)
+        ∙ ap (λ (t : Bool). if t then Some (open_in (after Verb.Wait) l.task) else None) (eq-eqb c c refl)
 
     own_by : (verb : Verb) → IsGoodWait verb → IsSplit verb → IsOpen verb
-    own_by Write wait split = keeps
-    own_by Ask wait split = keeps
-    own_by Wait wait split = closes wait split
-    own_by (Task Fork) wait split = forks split
-    own_by (Task Exit) wait split = keeps
-    own_by (Task Relabel) wait split = keeps
-    own_by (Task Drop) wait split = keeps
-    own_by (Task Kill) wait split = keeps
-    own_by (Task Take) wait split = keeps
-    own_by (Task Trace) wait split = keeps
-    own_by (Tree verb) wait split = keeps
+    own_by Verb.Write wait split = keeps
+    own_by Verb.Ask wait split = keeps
+    own_by Verb.Wait wait split = closes wait split
+    own_by (Verb.Task TaskVerb.Fork) wait split = forks split
+    own_by (Verb.Task TaskVerb.Exit) wait split = keeps
+    own_by (Verb.Task TaskVerb.Relabel) wait split = keeps
+    own_by (Verb.Task TaskVerb.Drop) wait split = keeps
+    own_by (Verb.Task TaskVerb.Kill) wait split = keeps
+    own_by (Verb.Task TaskVerb.Take) wait split = keeps
+    own_by (Verb.Task TaskVerb.Trace) wait split = keeps
+    own_by (Verb.Tree verb) wait split = keeps
 
     own_open : names ≡ tasks.names ++ (forked_name (change_of l) ++ rest)
         → open_after names (open_in tasks l.task) (change_of l) ≡ Some (open_in (behind_line above l) l.task)
@@ -283,13 +283,13 @@ module _ (above : List ScriptLine) (l : ScriptLine) (good : IsGoodLine above l) 
 -- the words of a line that leaves something in a record are known
 words_known : (labels names : List (List ℕ)) (l : ScriptLine) (verb : Verb) → IsMade labels names l verb
     → knows_words labels names l (Some verb) ≡ true
-words_known labels names l Write made = refl
-words_known labels names l Ask made =
+words_known labels names l Verb.Write made = refl
+words_known labels names l Verb.Ask made =
     let modes = ap (λ (t : Bool). is_some (if t then Some (modes_of (word_in 3 l)) else None)) made.2 in
     and_from _ _ (found_label labels (word_in 1 l) made.0) (and_from _ _ (found_label labels (word_in 2 l) made.1) modes)
-words_known labels names l Wait made = made
-words_known labels names l (Task verb) made = made
-words_known labels names l (Tree verb) made = made
+words_known labels names l Verb.Wait made = made
+words_known labels names l (Verb.Task verb) made = made
+words_known labels names l (Verb.Tree verb) made = made
 
 module _ (lines : List ScriptLine) (table : IsNameTable (task_names lines)) (p : ℕ) where
   abbrev s : Scripted

@@ -6,14 +6,14 @@ use Rattle.smack_base.specs.declared.ids.Pid.{Pid}
 use Rattle.rules_spec.specs.declared.Batch.{Batch}
 use Rattle.rules_spec.specs.declared.Verdict.{Verdict}
 use Rattle.rules_spec.specs.Rulings.{Ruling}
-use Rattle.world_spec.specs.declared.Why.TheVariants.{Exists, NoSuchTask, TasksFull}
-use Rattle.world_spec.specs.declared.Part.TheVariants.{Refuses}
-use Rattle.world_spec.specs.declared.TaskCall.TheVariants.{Fork, Exit, Relabel, DropCap, SelfRules, Relabels, Kill, Take, TraceRead, TraceAttach}
-use Rattle.world_spec.specs.declared.TreeCall.TheVariants.{Create, Unlink, ListDir}
+use Rattle.world_spec.specs.declared.Why.TheVariants as Why
+use Rattle.world_spec.specs.declared.Part.TheVariants as Part
+use Rattle.world_spec.specs.declared.TaskCall.TheVariants as TaskCall
+use Rattle.world_spec.specs.declared.TreeCall.TheVariants as TreeCall
 use Rattle.world_spec.specs.declared.Call.{Call}
-use Rattle.world_spec.specs.declared.Call.TheVariants.{Task, Tree}
+use Rattle.world_spec.specs.declared.Call.TheVariants as Call
 use Rattle.world_spec.specs.declared.Reply.{Reply}
-use Rattle.world_spec.specs.declared.Reply.TheVariants.{Child}
+use Rattle.world_spec.specs.declared.Reply.TheVariants as Reply
 use Rattle.world_spec.specs.declared.Entry.{Entry}
 use Rattle.world_spec.specs.Worlds.{World, TaskRow, is_of_pid, was_made, is_live, live_task, changed_at, creds_of, task_begun, most_tasks}
 use Rattle.world_spec.specs.Steps.{Effect, signalled, effect, stepped, went, verdict_of, step}
@@ -34,21 +34,21 @@ module _ (pid : Pid) where
 
   effect_made : (w : World) (version : Ruling) (task : ℕ) (call : Call) → was_made w.tasks pid ≡ true
       → was_made (effect w version task call).world.tasks pid ≡ true
-  effect_made w version task (Task (Fork p)) is =
+  effect_made w version task (Call.Task (TaskCall.Fork p)) is =
       list_any-append (is_of_pid pid) w.tasks (task_begun p (creds_of w task) ∷ [])
       ∙ ap (λ b. b || list_any (is_of_pid pid) (task_begun p (creds_of w task) ∷ [])) is
-  effect_made w version task (Task Exit) is = made_changed w.tasks task _ (λ r. refl) ∙ is
-  effect_made w version task (Task (Relabel l)) is = made_changed w.tasks task _ (λ r. refl) ∙ is
-  effect_made w version task (Task (DropCap cap)) is = made_changed w.tasks task _ (λ r. refl) ∙ is
-  effect_made w version task (Task (SelfRules rules)) is = made_changed w.tasks task _ (λ r. refl) ∙ is
-  effect_made w version task (Task (Relabels labels)) is = made_changed w.tasks task _ (λ r. refl) ∙ is
-  effect_made w version task (Task (Kill p sig)) is = made_signalled w.tasks (live_task w.tasks p) sig ∙ is
-  effect_made w version task (Task Take) is = made_changed w.tasks task _ (λ r. refl) ∙ is
-  effect_made w version task (Task (TraceRead p)) is = is
-  effect_made w version task (Task (TraceAttach p)) is = is
-  effect_made w version task (Tree (Create path)) is = is
-  effect_made w version task (Tree (Unlink path)) is = is
-  effect_made w version task (Tree (ListDir path at)) is = is
+  effect_made w version task (Call.Task TaskCall.Exit) is = made_changed w.tasks task _ (λ r. refl) ∙ is
+  effect_made w version task (Call.Task (TaskCall.Relabel l)) is = made_changed w.tasks task _ (λ r. refl) ∙ is
+  effect_made w version task (Call.Task (TaskCall.DropCap cap)) is = made_changed w.tasks task _ (λ r. refl) ∙ is
+  effect_made w version task (Call.Task (TaskCall.SelfRules rules)) is = made_changed w.tasks task _ (λ r. refl) ∙ is
+  effect_made w version task (Call.Task (TaskCall.Relabels labels)) is = made_changed w.tasks task _ (λ r. refl) ∙ is
+  effect_made w version task (Call.Task (TaskCall.Kill p sig)) is = made_signalled w.tasks (live_task w.tasks p) sig ∙ is
+  effect_made w version task (Call.Task TaskCall.Take) is = made_changed w.tasks task _ (λ r. refl) ∙ is
+  effect_made w version task (Call.Task (TaskCall.TraceRead p)) is = is
+  effect_made w version task (Call.Task (TaskCall.TraceAttach p)) is = is
+  effect_made w version task (Call.Tree (TreeCall.Create path)) is = is
+  effect_made w version task (Call.Tree (TreeCall.Unlink path)) is = is
+  effect_made w version task (Call.Tree (TreeCall.ListDir path at)) is = is
 
   stepped_made : (w : World) (e : Effect) (checks : List Verdict) (stop : Option Reply) → was_made w.tasks pid ≡ true
       → was_made e.world.tasks pid ≡ true → was_made (stepped w e checks stop).world.tasks pid ≡ true
@@ -64,18 +64,18 @@ module _ (pid : Pid) where
   or_so false = refl
 
   -- a fork that makes a task has a pid that no task had, and then one has it
-  fork_new : (w : World) (version : Ruling) (task k : ℕ) → (step w version task (Task (Fork pid))).reply ≡ Child k
-      → (was_made w.tasks pid ≡ false) × (was_made (step w version task (Task (Fork pid))).world.tasks pid ≡ true)
+  fork_new : (w : World) (version : Ruling) (task k : ℕ) → (step w version task (Call.Task (TaskCall.Fork pid))).reply ≡ Reply.Child k
+      → (was_made w.tasks pid ≡ false) × (was_made (step w version task (Call.Task (TaskCall.Fork pid))).world.tasks pid ≡ true)
   fork_new w version task k = by (not (is_live w.tasks task)) (was_made w.tasks pid) (nat_le most_tasks (length w.tasks)) refl
     where
       by : (dead made full : Bool) → was_made w.tasks pid ≡ made
-          → (stepped w (effect w version task (Task (Fork pid)))
-          (went (verdict_of w version task) (Refuses dead NoSuchTask ∷ Refuses made Exists ∷ Refuses full (TasksFull most_tasks) ∷ [])).checks
-          (went (verdict_of w version task) (Refuses dead NoSuchTask ∷ Refuses made Exists ∷ Refuses full (TasksFull most_tasks) ∷ [])).stop).reply ≡ Child k
+          → (stepped w (effect w version task (Call.Task (TaskCall.Fork pid)))
+          (went (verdict_of w version task) (Part.Refuses dead Why.NoSuchTask ∷ Part.Refuses made Why.Exists ∷ Part.Refuses full (Why.TasksFull most_tasks) ∷ [])).checks
+          (went (verdict_of w version task) (Part.Refuses dead Why.NoSuchTask ∷ Part.Refuses made Why.Exists ∷ Part.Refuses full (Why.TasksFull most_tasks) ∷ [])).stop).reply ≡ Reply.Child k
           → (was_made w.tasks pid ≡ false)
-          × (was_made (stepped w (effect w version task (Task (Fork pid)))
-          (went (verdict_of w version task) (Refuses dead NoSuchTask ∷ Refuses made Exists ∷ Refuses full (TasksFull most_tasks) ∷ [])).checks
-          (went (verdict_of w version task) (Refuses dead NoSuchTask ∷ Refuses made Exists ∷ Refuses full (TasksFull most_tasks) ∷ [])).stop).world.tasks pid ≡ true)
+          × (was_made (stepped w (effect w version task (Call.Task (TaskCall.Fork pid)))
+          (went (verdict_of w version task) (Part.Refuses dead Why.NoSuchTask ∷ Part.Refuses made Why.Exists ∷ Part.Refuses full (Why.TasksFull most_tasks) ∷ [])).checks
+          (went (verdict_of w version task) (Part.Refuses dead Why.NoSuchTask ∷ Part.Refuses made Why.Exists ∷ Part.Refuses full (Why.TasksFull most_tasks) ∷ [])).stop).world.tasks pid ≡ true)
       by true made full e is = cc
       by false true full e is = cc
       by false false true e is = cc

@@ -8,17 +8,17 @@ use Rattle.std.proofs.lemmas.Grind.{flat_map-append}
 use Rattle.smack_base.specs.declared.ids.Pid.{Pid}
 use Rattle.file_spec.specs.declared.Refusal.{Refusal}
 use Rattle.file_spec.specs.declared.Compiled.{Compiled}
-use Rattle.file_spec.specs.declared.Compiled.TheVariants.{Rules, SelfRules, Relabels}
+use Rattle.file_spec.specs.declared.Compiled.TheVariants as Compiled
 use Rattle.file_spec.specs.Files.{compiled}
 use Rattle.world_spec.specs.declared.TaskCall.{TaskCall}
-use Rattle.world_spec.specs.declared.TaskCall.TheVariants.{Fork, Exit}
+use Rattle.world_spec.specs.declared.TaskCall.TheVariants as TaskCall
 use Rattle.world_spec.specs.declared.TreeCall.{TreeCall}
-use Rattle.world_spec.specs.declared.Call.TheVariants.{Task, Tree}
+use Rattle.world_spec.specs.declared.Call.TheVariants as Call
 use Rattle.script_spec.specs.declared.Verb.{Verb}
-use Rattle.script_spec.specs.declared.Verb.TheVariants.{Write, Ask, Wait, Task as TaskVerbOf, Tree as TreeVerbOf}
-use Rattle.script_spec.specs.declared.TaskVerb.TheVariants.{Fork as ForkVerb, Exit as ExitVerb, Relabel as RelabelVerb, Drop, Kill as KillVerb, Take as TakeVerb, Trace}
+use Rattle.script_spec.specs.declared.Verb.TheVariants as Verb
+use Rattle.script_spec.specs.declared.TaskVerb.TheVariants as TaskVerb
 use Rattle.script_spec.specs.declared.TraceWay.{TraceWay}
-use Rattle.script_spec.specs.declared.TraceWay.TheVariants.{Read, Attach}
+use Rattle.script_spec.specs.declared.TraceWay.TheVariants as TraceWay
 use Rattle.script_spec.specs.Words.{cap_of, signal_of, trace_way_of}
 use Rattle.text_spec.specs.Names.{id_of}
 use Rattle.script_spec.specs.Lines.{ScriptLine, word_in, verb_in}
@@ -137,7 +137,7 @@ same_pid x y is = let e : x ≡ y = cc in ap (λ (p : Pid). p.0) e
 
 -- The pid of a task that a line forks is the number of the tasks above, and there is one task more behind the line.
 pub new_pid : (labels names : List (List ℕ)) (front behind : List ScriptLine) (l : ScriptLine) (pid : Pid) → IsNameTable names
-    → names ≡ task_names (front ++ l ∷ behind) → call_of_line labels names l ≡ Some (Task (Fork pid))
+    → names ≡ task_names (front ++ l ∷ behind) → call_of_line labels names l ≡ Some (Call.Task (TaskCall.Fork pid))
     → (pid.0 ≡ length (task_names front)) × (length (task_names (front ++ l ∷ [])) ≡ pid.0 + 1)
 new_pid labels names front behind l pid table whole forks =
     let f : ScriptLine → List (List ℕ) = λ x. forked_name (change_of x) in
@@ -167,7 +167,7 @@ names_before a x more =
 pub one_fork_line : (labels names : List (List ℕ)) (lines : List ScriptLine) (pid : Pid) → IsNameTable names → names ≡ task_names lines
     → (a : List ScriptLine) (x : ScriptLine) (after b : List ScriptLine) (y : ScriptLine) (behind : List ScriptLine)
     → lines ≡ a ++ x ∷ after → lines ≡ b ++ y ∷ behind
-    → call_of_line labels names x ≡ Some (Task (Fork pid)) → call_of_line labels names y ≡ Some (Task (Fork pid)) → (a ≡ b) × (x ≡ y)
+    → call_of_line labels names x ≡ Some (Call.Task (TaskCall.Fork pid)) → call_of_line labels names y ≡ Some (Call.Task (TaskCall.Fork pid)) → (a ≡ b) × (x ≡ y)
 one_fork_line labels names lines pid table whole a x after b y behind is it fx fy =
     let p = new_pid labels names a after x pid table (whole ∙ ap task_names is) fx in
     let q = new_pid labels names b behind y pid table (whole ∙ ap task_names it) fy in
@@ -181,49 +181,49 @@ one_fork_line labels names lines pid table whole a x after b y behind is it fx f
 
 -- Exits
 
-one_other : {A : Type 0} (a : Option A) (make : A → TaskCall) → ((x : A) → make x ≡ Exit → ⊥)
-    → of_one (of_one a make) (λ c. Task c) ≡ Some (Task Exit) → ⊥
+one_other : {A : Type 0} (a : Option A) (make : A → TaskCall) → ((x : A) → make x ≡ TaskCall.Exit → ⊥)
+    → of_one (of_one a make) (λ c. Call.Task c) ≡ Some (Call.Task TaskCall.Exit) → ⊥
 one_other None make other is = cc
 one_other (Some x) make other is = other x cc
 
-two_other : {A B : Type 0} (a : Option A) (b : Option B) (make : A → B → TaskCall) → ((x : A) (y : B) → make x y ≡ Exit → ⊥)
-    → of_one (of_two a b make) (λ c. Task c) ≡ Some (Task Exit) → ⊥
+two_other : {A B : Type 0} (a : Option A) (b : Option B) (make : A → B → TaskCall) → ((x : A) (y : B) → make x y ≡ TaskCall.Exit → ⊥)
+    → of_one (of_two a b make) (λ c. Call.Task c) ≡ Some (Call.Task TaskCall.Exit) → ⊥
 two_other None b make other is = cc
 two_other (Some x) None make other is = cc
 two_other (Some x) (Some y) make other is = other x y cc
 
-trace_other : (way : TraceWay) (target : Pid) → traced way target ≡ Exit → ⊥
-trace_other Read target is = cc
-trace_other Attach target is = cc
+trace_other : (way : TraceWay) (target : Pid) → traced way target ≡ TaskCall.Exit → ⊥
+trace_other TraceWay.Read target is = cc
+trace_other TraceWay.Attach target is = cc
 
-file_other : (made : Result Compiled Refusal) → of_one (file_call made) (λ c. Task c) ≡ Some (Task Exit) → ⊥
-file_other (Ok (Rules ops)) is = cc
-file_other (Ok (SelfRules rules)) is = cc
-file_other (Ok (Relabels list)) is = cc
+file_other : (made : Result Compiled Refusal) → of_one (file_call made) (λ c. Call.Task c) ≡ Some (Call.Task TaskCall.Exit) → ⊥
+file_other (Ok (Compiled.Rules ops)) is = cc
+file_other (Ok (Compiled.SelfRules rules)) is = cc
+file_other (Ok (Compiled.Relabels list)) is = cc
 file_other (Err fault) is = cc
 
-tree_other : (call : Option TreeCall) → of_one call (λ c. Tree c) ≡ Some (Task Exit) → ⊥
+tree_other : (call : Option TreeCall) → of_one call (λ c. Call.Tree c) ≡ Some (Call.Task TaskCall.Exit) → ⊥
 tree_other None is = cc
 tree_other (Some call) is = cc
 
 module _ (labels names : List (List ℕ)) (l : ScriptLine) where
-  exit_verb : (verb : Option Verb) → call_by labels names l verb ≡ Some (Task Exit) → is_exit (change_by verb l) ≡ true
+  exit_verb : (verb : Option Verb) → call_by labels names l verb ≡ Some (Call.Task TaskCall.Exit) → is_exit (change_by verb l) ≡ true
   exit_verb None is = cc
-  exit_verb (Some Write) is = absurd (file_other (compiled labels (word_in 1 l) l.text.bytes) is)
-  exit_verb (Some Ask) is = cc
-  exit_verb (Some Wait) is = cc
-  exit_verb (Some (TaskVerbOf ForkVerb)) is = absurd (one_other (pid_in names (word_in 1 l)) _ (λ x e. cc) is)
-  exit_verb (Some (TaskVerbOf ExitVerb)) is = refl
-  exit_verb (Some (TaskVerbOf RelabelVerb)) is = absurd (one_other (id_of labels (word_in 1 l)) _ (λ x e. cc) is)
-  exit_verb (Some (TaskVerbOf Drop)) is = absurd (one_other (cap_of (word_in 1 l)) _ (λ x e. cc) is)
-  exit_verb (Some (TaskVerbOf KillVerb)) is = absurd (two_other (pid_in names (word_in 1 l)) (signal_of (word_in 2 l)) _ (λ x y e. cc) is)
-  exit_verb (Some (TaskVerbOf TakeVerb)) is = cc
-  exit_verb (Some (TaskVerbOf Trace)) is =
+  exit_verb (Some Verb.Write) is = absurd (file_other (compiled labels (word_in 1 l) l.text.bytes) is)
+  exit_verb (Some Verb.Ask) is = cc
+  exit_verb (Some Verb.Wait) is = cc
+  exit_verb (Some (Verb.Task TaskVerb.Fork)) is = absurd (one_other (pid_in names (word_in 1 l)) _ (λ x e. cc) is)
+  exit_verb (Some (Verb.Task TaskVerb.Exit)) is = refl
+  exit_verb (Some (Verb.Task TaskVerb.Relabel)) is = absurd (one_other (id_of labels (word_in 1 l)) _ (λ x e. cc) is)
+  exit_verb (Some (Verb.Task TaskVerb.Drop)) is = absurd (one_other (cap_of (word_in 1 l)) _ (λ x e. cc) is)
+  exit_verb (Some (Verb.Task TaskVerb.Kill)) is = absurd (two_other (pid_in names (word_in 1 l)) (signal_of (word_in 2 l)) _ (λ x y e. cc) is)
+  exit_verb (Some (Verb.Task TaskVerb.Take)) is = cc
+  exit_verb (Some (Verb.Task TaskVerb.Trace)) is =
       absurd (two_other (trace_way_of (word_in 1 l)) (pid_in names (word_in 2 l)) traced (λ way target e. trace_other way target e) is)
-  exit_verb (Some (TreeVerbOf verb)) is = absurd (tree_other (tree_call l verb) is)
+  exit_verb (Some (Verb.Tree verb)) is = absurd (tree_other (tree_call l verb) is)
 
   -- a line that ends its task has the verb for it
-  pub exit_line : call_of_line labels names l ≡ Some (Task Exit) → is_exit (change_of l) ≡ true
+  pub exit_line : call_of_line labels names l ≡ Some (Call.Task TaskCall.Exit) → is_exit (change_of l) ≡ true
   exit_line is = exit_verb (verb_in l) is
 
 any_has : {A : Type 0} (test : A → Bool) (xs : List A) (x : A) → test x ≡ true → Has x xs → list_any test xs ≡ true

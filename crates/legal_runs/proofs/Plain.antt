@@ -8,14 +8,14 @@ use Rattle.world_spec.specs.declared.Entry.{Entry}
 use Rattle.world_spec.specs.Worlds.{World, world_first}
 use Rattle.world_spec.specs.Replays.{AreSteps, version_of, after_entry}
 use Rattle.script_spec.specs.declared.Verb.{Verb}
-use Rattle.script_spec.specs.declared.Verb.TheVariants.{Write}
-use Rattle.script_spec.specs.declared.WordKind.TheVariants.{File, Number}
+use Rattle.script_spec.specs.declared.Verb.TheVariants as Verb
+use Rattle.script_spec.specs.declared.WordKind.TheVariants as WordKind
 use Rattle.script_spec.specs.Words.{kinds_of, is_file_name}
 use Rattle.script_spec.specs.Lines.{ScriptLine, word_in, table_of}
 use Rattle.script_spec.specs.Tasks.{task_names}
 use Rattle.record_spec.specs.declared.AskedLine.{AskedLine}
 use Rattle.record_spec.specs.declared.AskedWhat.{AskedWhat}
-use Rattle.record_spec.specs.declared.AskedWhat.TheVariants.{Ask, Refused, Wait}
+use Rattle.record_spec.specs.declared.AskedWhat.TheVariants as AskedWhat
 use Rattle.replay_spec.specs.Plain.{IsPlainBatch, IsPlainCall, IsPlainEntry, IsPlainVerdict, IsPlainReply, IsPlainAnswer, IsPlainWhat, IsPlainAsked}
 use Rattle.replay_spec.proofs.KnownLabels.{known_id}
 use Rattle.replay_spec.proofs.ReadCalls.{known_pid}
@@ -52,8 +52,8 @@ file_named : (above ls : List ScriptLine) → AreGoodLines above ls → (l : Scr
 file_named above [] good l h is = elim h [ ]
 file_named above (x ∷ ls) good l here is =
     let g = good.0 in
-    kind_1 x g.first File (Number ∷ []) g.behind g.words
-    (subst (λ verb. AreOfKinds (g.first ∷ []) (kinds_of verb) g.behind) (same_verb g.verb Write (sym (good_verb above x g) ∙ is)) g.kinds)
+    kind_1 x g.first WordKind.File (WordKind.Number ∷ []) g.behind g.words
+    (subst (λ verb. AreOfKinds (g.first ∷ []) (kinds_of verb) g.behind) (same_verb g.verb Verb.Write (sym (good_verb above x g) ∙ is)) g.kinds)
 file_named above (x ∷ ls) good l (there h) is = file_named (above ++ x ∷ []) ls good.1 l h is
 
 -- steps from a plain world, of calls that lines give, are plain
@@ -111,12 +111,12 @@ module _ (full : Bool) (lines : List ScriptLine) (good : AreGoodLines [] lines) 
 
   what_plain : (a : AskedLine) (l : ScriptLine) → Has l lines → (what : AskedWhat) → IsAskedOfLine table names l what
       → IsSo (record_of full (scripted lines) left done t w g labels closed c) a what → IsPlainWhat table names what
-  what_plain a l u (Ask v) is so =
+  what_plain a l u (AskedWhat.Ask v) is so =
       subst (IsPlainAnswer table) (sym so)
       (answer_is_plain table (version_of j a.version) v.subject v.object v.modes (known_id table (word_in 1 l) v.subject is.1)
       (known_id table (word_in 2 l) v.object is.2))
-  what_plain a l u (Refused file fault) is so = subst (λ x. is_file_name x ≡ true) (sym is.1) (file_named [] lines good l u is.0)
-  what_plain a l u (Wait pid) is so = known_pid names (word_in 1 l) pid is.1
+  what_plain a l u (AskedWhat.Refused file fault) is so = subst (λ x. is_file_name x ≡ true) (sym is.1) (file_named [] lines good l u is.0)
+  what_plain a l u (AskedWhat.Wait pid) is so = known_pid names (word_in 1 l) pid is.1
 
   asked_plain : (n : ℕ) (a : AskedLine) → Stands ls n a → IsPlainAsked table names a
   asked_plain n a st =

@@ -5,14 +5,14 @@ use Rattle.smack_base.specs.declared.ids.Pid.{Pid}
 use Rattle.rules_spec.specs.declared.Batch.{Batch}
 use Rattle.rules_spec.specs.declared.Verdict.{Verdict}
 use Rattle.rules_spec.specs.Rulings.{Ruling}
-use Rattle.world_spec.specs.declared.Why.TheVariants.{Exists, NoSuchTask, TasksFull}
-use Rattle.world_spec.specs.declared.Part.TheVariants.{Refuses}
-use Rattle.world_spec.specs.declared.TaskCall.TheVariants.{Fork, Exit, Relabel, DropCap, SelfRules, Relabels, Kill, Take, TraceRead, TraceAttach}
-use Rattle.world_spec.specs.declared.TreeCall.TheVariants.{Create, Unlink, ListDir}
+use Rattle.world_spec.specs.declared.Why.TheVariants as Why
+use Rattle.world_spec.specs.declared.Part.TheVariants as Part
+use Rattle.world_spec.specs.declared.TaskCall.TheVariants as TaskCall
+use Rattle.world_spec.specs.declared.TreeCall.TheVariants as TreeCall
 use Rattle.world_spec.specs.declared.Call.{Call}
-use Rattle.world_spec.specs.declared.Call.TheVariants.{Task, Tree}
+use Rattle.world_spec.specs.declared.Call.TheVariants as Call
 use Rattle.world_spec.specs.declared.Reply.{Reply}
-use Rattle.world_spec.specs.declared.Reply.TheVariants.{Child}
+use Rattle.world_spec.specs.declared.Reply.TheVariants as Reply
 use Rattle.world_spec.specs.declared.Entry.{Entry}
 use Rattle.world_spec.specs.Worlds.{World, TaskRow, is_of_pid, was_made, is_live, live_task, changed_at, creds_of, task_begun, most_tasks}
 use Rattle.world_spec.specs.Steps.{Effect, signalled, effect, stepped, went, verdict_of, step}
@@ -69,35 +69,35 @@ module _ (k : ℕ) where
   signalled_live rows None sig is = is
   signalled_live rows (Some n) sig is = changed_live rows n k _ (λ r. refl) ∙ is
 
-  effect_live : (w : World) (version : Ruling) (task : ℕ) (call : Call) → (task ≡ k → call ≡ Task Exit → ⊥) → is_live w.tasks k ≡ true
+  effect_live : (w : World) (version : Ruling) (task : ℕ) (call : Call) → (task ≡ k → call ≡ Call.Task TaskCall.Exit → ⊥) → is_live w.tasks k ≡ true
       → is_live (effect w version task call).world.tasks k ≡ true
-  effect_live w version task (Task (Fork p)) stays is = live_more w.tasks (task_begun p (creds_of w task) ∷ []) k is
-  effect_live w version task (Task Exit) stays is = other_live w.tasks task k _ (λ e. stays e refl) ∙ is
-  effect_live w version task (Task (Relabel l)) stays is = changed_live w.tasks task k _ (λ r. refl) ∙ is
-  effect_live w version task (Task (DropCap cap)) stays is = changed_live w.tasks task k _ (λ r. refl) ∙ is
-  effect_live w version task (Task (SelfRules rules)) stays is = changed_live w.tasks task k _ (λ r. refl) ∙ is
-  effect_live w version task (Task (Relabels labels)) stays is = changed_live w.tasks task k _ (λ r. refl) ∙ is
-  effect_live w version task (Task (Kill p sig)) stays is = signalled_live w.tasks (live_task w.tasks p) sig is
-  effect_live w version task (Task Take) stays is = changed_live w.tasks task k _ (λ r. refl) ∙ is
-  effect_live w version task (Task (TraceRead p)) stays is = is
-  effect_live w version task (Task (TraceAttach p)) stays is = is
-  effect_live w version task (Tree (Create path)) stays is = is
-  effect_live w version task (Tree (Unlink path)) stays is = is
-  effect_live w version task (Tree (ListDir path at)) stays is = is
+  effect_live w version task (Call.Task (TaskCall.Fork p)) stays is = live_more w.tasks (task_begun p (creds_of w task) ∷ []) k is
+  effect_live w version task (Call.Task TaskCall.Exit) stays is = other_live w.tasks task k _ (λ e. stays e refl) ∙ is
+  effect_live w version task (Call.Task (TaskCall.Relabel l)) stays is = changed_live w.tasks task k _ (λ r. refl) ∙ is
+  effect_live w version task (Call.Task (TaskCall.DropCap cap)) stays is = changed_live w.tasks task k _ (λ r. refl) ∙ is
+  effect_live w version task (Call.Task (TaskCall.SelfRules rules)) stays is = changed_live w.tasks task k _ (λ r. refl) ∙ is
+  effect_live w version task (Call.Task (TaskCall.Relabels labels)) stays is = changed_live w.tasks task k _ (λ r. refl) ∙ is
+  effect_live w version task (Call.Task (TaskCall.Kill p sig)) stays is = signalled_live w.tasks (live_task w.tasks p) sig is
+  effect_live w version task (Call.Task TaskCall.Take) stays is = changed_live w.tasks task k _ (λ r. refl) ∙ is
+  effect_live w version task (Call.Task (TaskCall.TraceRead p)) stays is = is
+  effect_live w version task (Call.Task (TaskCall.TraceAttach p)) stays is = is
+  effect_live w version task (Call.Tree (TreeCall.Create path)) stays is = is
+  effect_live w version task (Call.Tree (TreeCall.Unlink path)) stays is = is
+  effect_live w version task (Call.Tree (TreeCall.ListDir path at)) stays is = is
 
   stepped_live : (w : World) (e : Effect) (checks : List Verdict) (stop : Option Reply) → is_live w.tasks k ≡ true
       → is_live e.world.tasks k ≡ true → is_live (stepped w e checks stop).world.tasks k ≡ true
   stepped_live w e checks None was is = is
   stepped_live w e checks (Some reply) was is = was
 
-  step_live : (w : World) (version : Ruling) (task : ℕ) (call : Call) → (task ≡ k → call ≡ Task Exit → ⊥) → is_live w.tasks k ≡ true
+  step_live : (w : World) (version : Ruling) (task : ℕ) (call : Call) → (task ≡ k → call ≡ Call.Task TaskCall.Exit → ⊥) → is_live w.tasks k ≡ true
       → is_live (step w version task call).world.tasks k ≡ true
   step_live w version task call stays is =
       stepped_live w (effect w version task call) _ _ is (effect_live w version task call stays is)
 
   -- no entry before a place is its exit
   abbrev pub NoExit : List Entry → ℕ → Type 0
-  NoExit es n = (m : ℕ) (x : Entry) → Stands es m x → m < n → x.task ≡ k → x.call ≡ Task Exit → ⊥
+  NoExit es n = (m : ℕ) (x : Entry) → Stands es m x → m < n → x.task ≡ k → x.call ≡ Call.Task TaskCall.Exit → ⊥
 
   later_exits : (x : Entry) (es : List Entry) (n : ℕ) → NoExit (x ∷ es) (suc n) → NoExit es n
   later_exits x es n stays m y st lt = stays (suc m) y st (omega (arith, lt))
@@ -111,18 +111,18 @@ module _ (k : ℕ) where
       (step_live w (version_of j x.version) x.task x.call (λ own exits. stays zero x refl (omega arith) own exits) is) st (later_exits x es n stays)
 
   -- a fork that makes it makes it live
-  fork_live : (w : World) (version : Ruling) (task : ℕ) (pid : Pid) → (step w version task (Task (Fork pid))).reply ≡ Child k
-      → is_live (step w version task (Task (Fork pid))).world.tasks k ≡ true
+  fork_live : (w : World) (version : Ruling) (task : ℕ) (pid : Pid) → (step w version task (Call.Task (TaskCall.Fork pid))).reply ≡ Reply.Child k
+      → is_live (step w version task (Call.Task (TaskCall.Fork pid))).world.tasks k ≡ true
   fork_live w version task pid replied =
       by (not (is_live w.tasks task)) (was_made w.tasks pid) (nat_le most_tasks (length w.tasks)) (fork_number w version task pid k replied) replied
     where
       by : (dead made full : Bool) → k ≡ length w.tasks
-          → (stepped w (effect w version task (Task (Fork pid)))
-          (went (verdict_of w version task) (Refuses dead NoSuchTask ∷ Refuses made Exists ∷ Refuses full (TasksFull most_tasks) ∷ [])).checks
-          (went (verdict_of w version task) (Refuses dead NoSuchTask ∷ Refuses made Exists ∷ Refuses full (TasksFull most_tasks) ∷ [])).stop).reply ≡ Child k
-          → is_live (stepped w (effect w version task (Task (Fork pid)))
-          (went (verdict_of w version task) (Refuses dead NoSuchTask ∷ Refuses made Exists ∷ Refuses full (TasksFull most_tasks) ∷ [])).checks
-          (went (verdict_of w version task) (Refuses dead NoSuchTask ∷ Refuses made Exists ∷ Refuses full (TasksFull most_tasks) ∷ [])).stop).world.tasks k ≡ true
+          → (stepped w (effect w version task (Call.Task (TaskCall.Fork pid)))
+          (went (verdict_of w version task) (Part.Refuses dead Why.NoSuchTask ∷ Part.Refuses made Why.Exists ∷ Part.Refuses full (Why.TasksFull most_tasks) ∷ [])).checks
+          (went (verdict_of w version task) (Part.Refuses dead Why.NoSuchTask ∷ Part.Refuses made Why.Exists ∷ Part.Refuses full (Why.TasksFull most_tasks) ∷ [])).stop).reply ≡ Reply.Child k
+          → is_live (stepped w (effect w version task (Call.Task (TaskCall.Fork pid)))
+          (went (verdict_of w version task) (Part.Refuses dead Why.NoSuchTask ∷ Part.Refuses made Why.Exists ∷ Part.Refuses full (Why.TasksFull most_tasks) ∷ [])).checks
+          (went (verdict_of w version task) (Part.Refuses dead Why.NoSuchTask ∷ Part.Refuses made Why.Exists ∷ Part.Refuses full (Why.TasksFull most_tasks) ∷ [])).stop).world.tasks k ≡ true
       by true made full next is = cc
       by false true full next is = cc
       by false false true next is = cc
@@ -197,26 +197,26 @@ made_pid (r ∷ rs) pid is = by (is_of_pid pid r) refl (λ e. made_pid rs pid e)
 -- a call that made a task of a new pid
 record MadeOne (w : World) (call : Call) (reply : Reply) (after : List TaskRow) : Type 0 where
   pid : Pid
-  forks : call ≡ Task (Fork pid)
+  forks : call ≡ Call.Task (TaskCall.Fork pid)
   new : was_made w.tasks pid ≡ false
-  replied : reply ≡ Child (length w.tasks)
+  replied : reply ≡ Reply.Child (length w.tasks)
   pids : pids_of after ≡ pids_of w.tasks ++ pid.0 ∷ []
 
-effect_pids : (w : World) (version : Ruling) (task : ℕ) (call : Call) → ((pid : Pid) → call ≡ Task (Fork pid) → ⊥)
+effect_pids : (w : World) (version : Ruling) (task : ℕ) (call : Call) → ((pid : Pid) → call ≡ Call.Task (TaskCall.Fork pid) → ⊥)
     → pids_of (effect w version task call).world.tasks ≡ pids_of w.tasks
-effect_pids w version task (Task (Fork p)) other = absurd (other p refl)
-effect_pids w version task (Task Exit) other = changed_pids w.tasks task _ (λ r. refl)
-effect_pids w version task (Task (Relabel l)) other = changed_pids w.tasks task _ (λ r. refl)
-effect_pids w version task (Task (DropCap cap)) other = changed_pids w.tasks task _ (λ r. refl)
-effect_pids w version task (Task (SelfRules rules)) other = changed_pids w.tasks task _ (λ r. refl)
-effect_pids w version task (Task (Relabels labels)) other = changed_pids w.tasks task _ (λ r. refl)
-effect_pids w version task (Task (Kill p sig)) other = signalled_pids w.tasks (live_task w.tasks p) sig
-effect_pids w version task (Task Take) other = changed_pids w.tasks task _ (λ r. refl)
-effect_pids w version task (Task (TraceRead p)) other = refl
-effect_pids w version task (Task (TraceAttach p)) other = refl
-effect_pids w version task (Tree (Create path)) other = refl
-effect_pids w version task (Tree (Unlink path)) other = refl
-effect_pids w version task (Tree (ListDir path at)) other = refl
+effect_pids w version task (Call.Task (TaskCall.Fork p)) other = absurd (other p refl)
+effect_pids w version task (Call.Task TaskCall.Exit) other = changed_pids w.tasks task _ (λ r. refl)
+effect_pids w version task (Call.Task (TaskCall.Relabel l)) other = changed_pids w.tasks task _ (λ r. refl)
+effect_pids w version task (Call.Task (TaskCall.DropCap cap)) other = changed_pids w.tasks task _ (λ r. refl)
+effect_pids w version task (Call.Task (TaskCall.SelfRules rules)) other = changed_pids w.tasks task _ (λ r. refl)
+effect_pids w version task (Call.Task (TaskCall.Relabels labels)) other = changed_pids w.tasks task _ (λ r. refl)
+effect_pids w version task (Call.Task (TaskCall.Kill p sig)) other = signalled_pids w.tasks (live_task w.tasks p) sig
+effect_pids w version task (Call.Task TaskCall.Take) other = changed_pids w.tasks task _ (λ r. refl)
+effect_pids w version task (Call.Task (TaskCall.TraceRead p)) other = refl
+effect_pids w version task (Call.Task (TaskCall.TraceAttach p)) other = refl
+effect_pids w version task (Call.Tree (TreeCall.Create path)) other = refl
+effect_pids w version task (Call.Tree (TreeCall.Unlink path)) other = refl
+effect_pids w version task (Call.Tree (TreeCall.ListDir path at)) other = refl
 
 stepped_pids : (w : World) (e : Effect) (checks : List Verdict) (stop : Option Reply) → pids_of e.world.tasks ≡ pids_of w.tasks
     → pids_of (stepped w e checks stop).world.tasks ≡ pids_of w.tasks
@@ -229,23 +229,23 @@ KeepsPids w version task call =
     (pids_of (step w version task call).world.tasks ≡ pids_of w.tasks)
     ⊎ MadeOne w call (step w version task call).reply (step w version task call).world.tasks
 
-other_pids : (w : World) (version : Ruling) (task : ℕ) (call : Call) → ((pid : Pid) → call ≡ Task (Fork pid) → ⊥) → KeepsPids w version task call
+other_pids : (w : World) (version : Ruling) (task : ℕ) (call : Call) → ((pid : Pid) → call ≡ Call.Task (TaskCall.Fork pid) → ⊥) → KeepsPids w version task call
 other_pids w version task call other =
     inl (stepped_pids w (effect w version task call) _ _ (effect_pids w version task call other))
 
-fork_pids : (w : World) (version : Ruling) (task : ℕ) (pid : Pid) → KeepsPids w version task (Task (Fork pid))
+fork_pids : (w : World) (version : Ruling) (task : ℕ) (pid : Pid) → KeepsPids w version task (Call.Task (TaskCall.Fork pid))
 fork_pids w version task pid = by (not (is_live w.tasks task)) (was_made w.tasks pid) (nat_le most_tasks (length w.tasks)) refl
   where
     by : (dead made full : Bool) → was_made w.tasks pid ≡ made
-        → (pids_of (stepped w (effect w version task (Task (Fork pid)))
-        (went (verdict_of w version task) (Refuses dead NoSuchTask ∷ Refuses made Exists ∷ Refuses full (TasksFull most_tasks) ∷ [])).checks
-        (went (verdict_of w version task) (Refuses dead NoSuchTask ∷ Refuses made Exists ∷ Refuses full (TasksFull most_tasks) ∷ [])).stop).world.tasks ≡ pids_of w.tasks)
-        ⊎ MadeOne w (Task (Fork pid)) (stepped w (effect w version task (Task (Fork pid)))
-        (went (verdict_of w version task) (Refuses dead NoSuchTask ∷ Refuses made Exists ∷ Refuses full (TasksFull most_tasks) ∷ [])).checks
-        (went (verdict_of w version task) (Refuses dead NoSuchTask ∷ Refuses made Exists ∷ Refuses full (TasksFull most_tasks) ∷ [])).stop).reply
-        (stepped w (effect w version task (Task (Fork pid)))
-        (went (verdict_of w version task) (Refuses dead NoSuchTask ∷ Refuses made Exists ∷ Refuses full (TasksFull most_tasks) ∷ [])).checks
-        (went (verdict_of w version task) (Refuses dead NoSuchTask ∷ Refuses made Exists ∷ Refuses full (TasksFull most_tasks) ∷ [])).stop).world.tasks
+        → (pids_of (stepped w (effect w version task (Call.Task (TaskCall.Fork pid)))
+        (went (verdict_of w version task) (Part.Refuses dead Why.NoSuchTask ∷ Part.Refuses made Why.Exists ∷ Part.Refuses full (Why.TasksFull most_tasks) ∷ [])).checks
+        (went (verdict_of w version task) (Part.Refuses dead Why.NoSuchTask ∷ Part.Refuses made Why.Exists ∷ Part.Refuses full (Why.TasksFull most_tasks) ∷ [])).stop).world.tasks ≡ pids_of w.tasks)
+        ⊎ MadeOne w (Call.Task (TaskCall.Fork pid)) (stepped w (effect w version task (Call.Task (TaskCall.Fork pid)))
+        (went (verdict_of w version task) (Part.Refuses dead Why.NoSuchTask ∷ Part.Refuses made Why.Exists ∷ Part.Refuses full (Why.TasksFull most_tasks) ∷ [])).checks
+        (went (verdict_of w version task) (Part.Refuses dead Why.NoSuchTask ∷ Part.Refuses made Why.Exists ∷ Part.Refuses full (Why.TasksFull most_tasks) ∷ [])).stop).reply
+        (stepped w (effect w version task (Call.Task (TaskCall.Fork pid)))
+        (went (verdict_of w version task) (Part.Refuses dead Why.NoSuchTask ∷ Part.Refuses made Why.Exists ∷ Part.Refuses full (Why.TasksFull most_tasks) ∷ [])).checks
+        (went (verdict_of w version task) (Part.Refuses dead Why.NoSuchTask ∷ Part.Refuses made Why.Exists ∷ Part.Refuses full (Why.TasksFull most_tasks) ∷ [])).stop).world.tasks
     by true made full e = inl refl
     by false true full e = inl refl
     by false false true e = inl refl
@@ -253,17 +253,17 @@ fork_pids w version task pid = by (not (is_live w.tasks task)) (was_made w.tasks
         inr (record { pid = pid; forks = refl; new = e; replied = refl; pids = pids-append w.tasks (task_begun pid (creds_of w task)) })
 
 step_pids : (w : World) (version : Ruling) (task : ℕ) (call : Call) → KeepsPids w version task call
-step_pids w version task (Task (Fork p)) = fork_pids w version task p
-step_pids w version task (Task Exit) = other_pids w version task (Task Exit) (λ p e. cc)
-step_pids w version task (Task (Relabel l)) = other_pids w version task (Task (Relabel l)) (λ p e. cc)
-step_pids w version task (Task (DropCap cap)) = other_pids w version task (Task (DropCap cap)) (λ p e. cc)
-step_pids w version task (Task (SelfRules rules)) = other_pids w version task (Task (SelfRules rules)) (λ p e. cc)
-step_pids w version task (Task (Relabels labels)) = other_pids w version task (Task (Relabels labels)) (λ p e. cc)
-step_pids w version task (Task (Kill p sig)) = other_pids w version task (Task (Kill p sig)) (λ p e. cc)
-step_pids w version task (Task Take) = other_pids w version task (Task Take) (λ p e. cc)
-step_pids w version task (Task (TraceRead p)) = other_pids w version task (Task (TraceRead p)) (λ p e. cc)
-step_pids w version task (Task (TraceAttach p)) = other_pids w version task (Task (TraceAttach p)) (λ p e. cc)
-step_pids w version task (Tree call) = other_pids w version task (Tree call) (λ p e. cc)
+step_pids w version task (Call.Task (TaskCall.Fork p)) = fork_pids w version task p
+step_pids w version task (Call.Task TaskCall.Exit) = other_pids w version task (Call.Task TaskCall.Exit) (λ p e. cc)
+step_pids w version task (Call.Task (TaskCall.Relabel l)) = other_pids w version task (Call.Task (TaskCall.Relabel l)) (λ p e. cc)
+step_pids w version task (Call.Task (TaskCall.DropCap cap)) = other_pids w version task (Call.Task (TaskCall.DropCap cap)) (λ p e. cc)
+step_pids w version task (Call.Task (TaskCall.SelfRules rules)) = other_pids w version task (Call.Task (TaskCall.SelfRules rules)) (λ p e. cc)
+step_pids w version task (Call.Task (TaskCall.Relabels labels)) = other_pids w version task (Call.Task (TaskCall.Relabels labels)) (λ p e. cc)
+step_pids w version task (Call.Task (TaskCall.Kill p sig)) = other_pids w version task (Call.Task (TaskCall.Kill p sig)) (λ p e. cc)
+step_pids w version task (Call.Task TaskCall.Take) = other_pids w version task (Call.Task TaskCall.Take) (λ p e. cc)
+step_pids w version task (Call.Task (TaskCall.TraceRead p)) = other_pids w version task (Call.Task (TaskCall.TraceRead p)) (λ p e. cc)
+step_pids w version task (Call.Task (TaskCall.TraceAttach p)) = other_pids w version task (Call.Task (TaskCall.TraceAttach p)) (λ p e. cc)
+step_pids w version task (Call.Tree call) = other_pids w version task (Call.Tree call) (λ p e. cc)
 
 -- the fork that made the task of a pid, before a place
 pub record MadeBefore (es : List Entry) (n p : ℕ) : Type 0 where
@@ -307,7 +307,7 @@ made_by j w (x ∷ es) (suc n) e p steps st h =
       number = length w.tasks;
       stands = refl;
       before = omega arith;
-      is = (one.forks ∙ ap (λ (i : ℕ). Task (Fork (record { 0 = i }))) (sym is), steps.1 ∙ one.replied);
+      is = (one.forks ∙ ap (λ (i : ℕ). Call.Task (TaskCall.Fork (record { 0 = i }))) (sym is), steps.1 ∙ one.replied);
     }
 
 -- no pid stands twice, and each is below a bound
@@ -317,9 +317,9 @@ module _ (most : ℕ) where
     pub below : (p : ℕ) → Has p (pids_of rows) → p < most
 
   abbrev pub ForksBelow : List Entry → Type 0
-  ForksBelow es = (x : Entry) → Has x es → (pid : Pid) → x.call ≡ Task (Fork pid) → pid.0 < most
+  ForksBelow es = (x : Entry) → Has x es → (pid : Pid) → x.call ≡ Call.Task (TaskCall.Fork pid) → pid.0 < most
 
-  few_step : (w : World) (version : Ruling) (task : ℕ) (call : Call) → ((pid : Pid) → call ≡ Task (Fork pid) → pid.0 < most)
+  few_step : (w : World) (version : Ruling) (task : ℕ) (call : Call) → ((pid : Pid) → call ≡ Call.Task (TaskCall.Fork pid) → pid.0 < most)
       → FewPids w.tasks → FewPids (step w version task call).world.tasks
   few_step w version task call low few =
       ⊎_elim (λ same. record {

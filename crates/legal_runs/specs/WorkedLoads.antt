@@ -1,7 +1,7 @@
 use Rattle.std.specs.Prelude.{◌≤◌, ◌+◌, ℕ, List, [], ◌∷◌, ◌++◌}
 use Rattle.smack_base.specs.declared.ids.LabelId.{LabelId}
 use Rattle.smack_base.specs.declared.rule_op.RuleOp.{RuleOp}
-use Rattle.smack_base.specs.declared.rule_op.RuleOp.TheVariants.{Set}
+use Rattle.smack_base.specs.declared.rule_op.RuleOp.TheVariants as RuleOp
 use Rattle.rules_spec.specs.AskedModes.{read, write}
 use Rattle.rules_spec.specs.declared.Batch.{Batch}
 use Rattle.smack_kernel.specs.Tasks.{TaskValue, LoadsOnce}
@@ -12,7 +12,7 @@ published seq ops = record { task = 0; seq = seq; ops = ops }
 
 -- the writes of a text of two lines
 abbrev pub two_rules : LabelId → LabelId → List RuleOp
-two_rules s o = Set s o read ∷ Set o s write ∷ []
+two_rules s o = RuleOp.Set s o read ∷ RuleOp.Set o s write ∷ []
 
 -- the journal after three texts of two lines each
 abbrev pub three_texts : LabelId → LabelId → List Batch

@@ -2,9 +2,9 @@ use Rattle.std.specs.Prelude.{◌≡◌, ◌<◌, ◌⊎◌, ℕ, ◌+◌, ◌==
 use Rattle.std.specs.List.{slice_get}
 use Rattle.smack_base.specs.declared.ids.Pid.{Pid}
 use Rattle.rules_spec.specs.declared.Batch.{Batch}
-use Rattle.world_spec.specs.declared.TaskCall.TheVariants.{Fork}
-use Rattle.world_spec.specs.declared.Call.TheVariants.{Task}
-use Rattle.world_spec.specs.declared.Reply.TheVariants.{Child}
+use Rattle.world_spec.specs.declared.TaskCall.TheVariants as TaskCall
+use Rattle.world_spec.specs.declared.Call.TheVariants as Call
+use Rattle.world_spec.specs.declared.Reply.TheVariants as Reply
 use Rattle.world_spec.specs.declared.Entry.{Entry}
 use Rattle.record_spec.specs.declared.AskedLine.{AskedLine}
 use Rattle.record_spec.specs.declared.RunRecord.{RunRecord}
@@ -15,7 +15,7 @@ Stands xs i x = slice_get xs i ≡ Some x
 
 -- the entry is the fork of a pid, and its reply names the number of the task that it made
 abbrev pub IsForkOf : Entry → ℕ → Pid → Type 0
-IsForkOf e number pid = (e.call ≡ Task (Fork pid)) × (e.reply ≡ Child number)
+IsForkOf e number pid = (e.call ≡ Call.Task (TaskCall.Fork pid)) × (e.reply ≡ Reply.Child number)
 
 -- The number of the task with a pid: that of the first task, which has pid 0, is 0; that of another is named by the
 -- reply to the fork of its pid.

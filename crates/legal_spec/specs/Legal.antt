@@ -1,19 +1,19 @@
 use Rattle.std.specs.Prelude.{◌≡◌, ◌≤◌, ◌<◌, ℕ, ◌+◌, true, false, ◌&&◌, if◌then◌else◌, List, length, take, nat_le, is_some}
 use Rattle.std.specs.List.{sum_by}
 use Rattle.smack_base.specs.declared.ids.Pid.{Pid}
-use Rattle.smack_base.specs.declared.cap.Cap.TheVariants.{MacAdmin}
+use Rattle.smack_base.specs.declared.cap.Cap.TheVariants as Cap
 use Rattle.rules_spec.specs.declared.Batch.{Batch}
 use Rattle.rules_spec.specs.Cases.{verdict_of_cases}
 use Rattle.rules_spec.specs.Creds.{is_effective}
 use Rattle.file_spec.specs.declared.Refusal.{Refusal}
-use Rattle.file_spec.specs.declared.Refusal.TheVariants.{NoSuchFile, TooLong, BadLine, UnknownLabel, NotPrivileged, JournalFull}
+use Rattle.file_spec.specs.declared.Refusal.TheVariants as Refusal
 use Rattle.file_spec.specs.Writes.{rule_file}
 use Rattle.world_spec.specs.declared.Entry.{Entry}
 use Rattle.world_spec.specs.Worlds.{world_first}
 use Rattle.world_spec.specs.Replays.{version_of, AreSteps, cred_at}
 use Rattle.record_spec.specs.declared.AskedLine.{AskedLine}
 use Rattle.record_spec.specs.declared.AskedWhat.{AskedWhat}
-use Rattle.record_spec.specs.declared.AskedWhat.TheVariants.{Ask, Refused, Wait}
+use Rattle.record_spec.specs.declared.AskedWhat.TheVariants as AskedWhat
 use Rattle.record_spec.specs.declared.RunRecord.{RunRecord}
 use Rattle.replay_spec.specs.Laws.{calls_at}
 use Rattle.replay_spec.specs.Plain.{IsNameTable}
@@ -49,7 +49,7 @@ pub record AreJudged (r : RunRecord) : Type 0 where
 -- Each batch was published by a task that had CAP_MAC_ADMIN effective in the version before it.
 abbrev pub ArePrivileged : RunRecord → Type 0
 ArePrivileged r = (i : ℕ) (b : Batch) → Stands r.journal i b
-    → is_effective (cred_at r.journal r.history b.task b.seq) MacAdmin (version_of r.journal i) ≡ true
+    → is_effective (cred_at r.journal r.history b.task b.seq) Cap.MacAdmin (version_of r.journal i) ≡ true
 
 -- the rows that a version takes: for each batch its writes and one
 abbrev pub rows_of : List Batch → ℕ
@@ -58,20 +58,20 @@ rows_of version = sum_by (λ b. length b.ops + 1) version
 -- A batch is refused for want of privilege, or for want of room, only where a file of rules or settings is written.
 -- Other refusals are of the text, which the record does not have.
 abbrev pub IsRefused : RunRecord → AskedLine → List ℕ → Refusal → Type 0
-IsRefused r a file NoSuchFile = Unit {0}
-IsRefused r a file TooLong = Unit {0}
-IsRefused r a file (BadLine bad) = Unit {0}
-IsRefused r a file (UnknownLabel line) = Unit {0}
-IsRefused r a file NotPrivileged =
+IsRefused r a file Refusal.NoSuchFile = Unit {0}
+IsRefused r a file Refusal.TooLong = Unit {0}
+IsRefused r a file (Refusal.BadLine bad) = Unit {0}
+IsRefused r a file (Refusal.UnknownLabel line) = Unit {0}
+IsRefused r a file Refusal.NotPrivileged =
     (is_some (rule_file file) ≡ true)
-    × (is_effective (cred_at r.journal r.history a.task a.seq) MacAdmin (version_of r.journal a.version) ≡ false)
-IsRefused r a file (JournalFull rows) = (is_some (rule_file file) ≡ true) × (rows ≡ rows_of (take a.version r.journal))
+    × (is_effective (cred_at r.journal r.history a.task a.seq) Cap.MacAdmin (version_of r.journal a.version) ≡ false)
+IsRefused r a file (Refusal.JournalFull rows) = (is_some (rule_file file) ≡ true) × (rows ≡ rows_of (take a.version r.journal))
 
 -- what a line says that is neither a batch nor an object call is so in its version
 abbrev pub IsSo : RunRecord → AskedLine → AskedWhat → Type 0
-IsSo r a (Ask v) = v ≡ verdict_of_cases (version_of r.journal a.version) v.subject v.object v.modes
-IsSo r a (Refused file fault) = IsRefused r a file fault
-IsSo r a (Wait pid) = Unit {0}
+IsSo r a (AskedWhat.Ask v) = v ≡ verdict_of_cases (version_of r.journal a.version) v.subject v.object v.modes
+IsSo r a (AskedWhat.Refused file fault) = IsRefused r a file fault
+IsSo r a (AskedWhat.Wait pid) = Unit {0}
 
 -- The asked, refused and waited lines.
 abbrev pub AreAnswered : RunRecord → Type 0
@@ -101,7 +101,7 @@ pub record IsFresh (r : RunRecord) : Type 0 where
   pub forked : (i : ℕ) (fork : Entry) (pid : Pid) (task seq needs reaches : ℕ) → Stands r.history i fork
       → IsForkOf fork task pid → IsCall r task seq needs reaches → fork.version ≤ needs
   -- told by waiting
-  pub waited : (i : ℕ) (a : AskedLine) (pid : Pid) → Stands r.asked i a → a.what ≡ Wait pid → HasWaited r a pid
+  pub waited : (i : ℕ) (a : AskedLine) (pid : Pid) → Stands r.asked i a → a.what ≡ AskedWhat.Wait pid → HasWaited r a pid
 
 -- A record is legal: it is one history of one world, under one journal of rules, whatever the order in which the tasks
 -- ran.

@@ -3,21 +3,21 @@ use Rattle.smack_base.specs.declared.rule_op.RuleOp.{RuleOp}
 use Rattle.text_spec.specs.Names.{id_of}
 use Rattle.rules_spec.specs.declared.Verdict.{Verdict}
 use Rattle.file_spec.specs.declared.Refusal.{Refusal}
-use Rattle.file_spec.specs.declared.Refusal.TheVariants.{NoSuchFile, TooLong, BadLine, UnknownLabel, NotPrivileged, JournalFull}
-use Rattle.file_spec.specs.declared.Compiled.TheVariants.{Rules}
+use Rattle.file_spec.specs.declared.Refusal.TheVariants as Refusal
+use Rattle.file_spec.specs.declared.Compiled.TheVariants as Compiled
 use Rattle.file_spec.specs.Files.{compiled}
-use Rattle.script_spec.specs.declared.Verb.TheVariants.{Write, Ask as AskVerb, Wait as WaitVerb}
+use Rattle.script_spec.specs.declared.Verb.TheVariants as Verb
 use Rattle.script_spec.specs.Lines.{ScriptLine, word_in, verb_in}
 use Rattle.script_spec.specs.Grammar.{most_rows}
 use Rattle.world_spec.specs.declared.Call.{Call}
 use Rattle.record_spec.specs.declared.AskedWhat.{AskedWhat}
-use Rattle.record_spec.specs.declared.AskedWhat.TheVariants.{Ask, Refused, Wait}
+use Rattle.record_spec.specs.declared.AskedWhat.TheVariants as AskedWhat
 use Rattle.replay_spec.specs.Calls.{pid_in, call_of_line}
 use Rattle.replay_spec.specs.Replays.{modes_in}
 
 -- the line writes a text to a file of rules or settings, and the text spells these writes
 abbrev pub IsBatchOfLine : List (List ℕ) → ScriptLine → List RuleOp → Type 0
-IsBatchOfLine labels l ops = (verb_in l ≡ Some Write) × (compiled labels (word_in 1 l) l.text.bytes ≡ Ok (Rules ops))
+IsBatchOfLine labels l ops = (verb_in l ≡ Some Verb.Write) × (compiled labels (word_in 1 l) l.text.bytes ≡ Ok (Compiled.Rules ops))
 
 -- the line makes this object call
 abbrev pub IsCallOfLine : List (List ℕ) → List (List ℕ) → ScriptLine → Call → Type 0
@@ -26,22 +26,22 @@ IsCallOfLine labels names l call = call_of_line labels names l ≡ Some call
 -- the line asks for the modes of the verdict on its subject and its object
 abbrev pub IsAskOfLine : List (List ℕ) → ScriptLine → Verdict → Type 0
 IsAskOfLine labels l v =
-    (verb_in l ≡ Some AskVerb) × (id_of labels (word_in 1 l) ≡ Some v.subject) × (id_of labels (word_in 2 l) ≡ Some v.object)
+    (verb_in l ≡ Some Verb.Ask) × (id_of labels (word_in 1 l) ≡ Some v.subject) × (id_of labels (word_in 2 l) ≡ Some v.object)
     × (modes_in (word_in 3 l) ≡ Some v.modes)
 
 -- The text of the line is refused so. A text refusal is the one that the text has. A batch is refused for want of
 -- privilege, and for want of room where the rows of the journal, the writes and one are more than a journal has.
 abbrev pub IsRefusalOfLine : List (List ℕ) → ScriptLine → Refusal → Type 0
-IsRefusalOfLine labels l NoSuchFile = compiled labels (word_in 1 l) l.text.bytes ≡ Err NoSuchFile
-IsRefusalOfLine labels l TooLong = compiled labels (word_in 1 l) l.text.bytes ≡ Err TooLong
-IsRefusalOfLine labels l (BadLine bad) = compiled labels (word_in 1 l) l.text.bytes ≡ Err (BadLine bad)
-IsRefusalOfLine labels l (UnknownLabel line) = compiled labels (word_in 1 l) l.text.bytes ≡ Err (UnknownLabel line)
-IsRefusalOfLine labels l NotPrivileged = (ops : List RuleOp) × (compiled labels (word_in 1 l) l.text.bytes ≡ Ok (Rules ops))
-IsRefusalOfLine labels l (JournalFull rows) =
-    (ops : List RuleOp) × (compiled labels (word_in 1 l) l.text.bytes ≡ Ok (Rules ops)) × (most_rows < rows + length ops + 1)
+IsRefusalOfLine labels l Refusal.NoSuchFile = compiled labels (word_in 1 l) l.text.bytes ≡ Err Refusal.NoSuchFile
+IsRefusalOfLine labels l Refusal.TooLong = compiled labels (word_in 1 l) l.text.bytes ≡ Err Refusal.TooLong
+IsRefusalOfLine labels l (Refusal.BadLine bad) = compiled labels (word_in 1 l) l.text.bytes ≡ Err (Refusal.BadLine bad)
+IsRefusalOfLine labels l (Refusal.UnknownLabel line) = compiled labels (word_in 1 l) l.text.bytes ≡ Err (Refusal.UnknownLabel line)
+IsRefusalOfLine labels l Refusal.NotPrivileged = (ops : List RuleOp) × (compiled labels (word_in 1 l) l.text.bytes ≡ Ok (Compiled.Rules ops))
+IsRefusalOfLine labels l (Refusal.JournalFull rows) =
+    (ops : List RuleOp) × (compiled labels (word_in 1 l) l.text.bytes ≡ Ok (Compiled.Rules ops)) × (most_rows < rows + length ops + 1)
 
 -- the line is what this asked, refused or waited line says
 abbrev pub IsAskedOfLine : List (List ℕ) → List (List ℕ) → ScriptLine → AskedWhat → Type 0
-IsAskedOfLine labels names l (Ask v) = IsAskOfLine labels l v
-IsAskedOfLine labels names l (Refused file fault) = (verb_in l ≡ Some Write) × (file ≡ word_in 1 l) × IsRefusalOfLine labels l fault
-IsAskedOfLine labels names l (Wait pid) = (verb_in l ≡ Some WaitVerb) × (pid_in names (word_in 1 l) ≡ Some pid)
+IsAskedOfLine labels names l (AskedWhat.Ask v) = IsAskOfLine labels l v
+IsAskedOfLine labels names l (AskedWhat.Refused file fault) = (verb_in l ≡ Some Verb.Write) × (file ≡ word_in 1 l) × IsRefusalOfLine labels l fault
+IsAskedOfLine labels names l (AskedWhat.Wait pid) = (verb_in l ≡ Some Verb.Wait) × (pid_in names (word_in 1 l) ≡ Some pid)

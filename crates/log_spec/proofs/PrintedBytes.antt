@@ -3,8 +3,8 @@ use Rattle.std.specs.List.{list_all, position_or_len}
 use Rattle.std.proofs.lemmas.Bool.{and_parts, and_from, ltb-false, le-leb, leb-true}
 use Rattle.std.proofs.lemmas.List.Folds.{list_all-append}
 use Rattle.smack_base.specs.declared.modes.Modes.{Modes}
-use Rattle.smack_base.specs.declared.label.LabelFault.TheVariants.{Empty, TooLong, LeadingDash, BadByte}
-use Rattle.smack_base.specs.declared.path.PathFault.TheVariants.{EmptyName, NameTooLong, DotName, BadByte as BadNameByte}
+use Rattle.smack_base.specs.declared.label.LabelFault.TheVariants as LabelFault
+use Rattle.smack_base.specs.declared.path.PathFault.TheVariants as PathFault
 use Rattle.smack_base.specs.Labels.{is_label, is_label_byte, begins_with_dash}
 use Rattle.smack_base.specs.Modes.{letters_of, when, or_dash, letter_r, letter_w, letter_x, letter_a, letter_t, letter_b}
 use Rattle.smack_base.specs.Paths.{PathName, is_name_byte, is_dots, name_fault}
@@ -54,16 +54,16 @@ label_byte b is = (and_parts _ _ (and_parts _ _ (and_parts _ _ (and_parts _ _ is
 pub label_bytes : (text : List ℕ) → is_label text ≡ true → list_all is_name_byte text ≡ true
 label_bytes text is =
     all_weaker is_label_byte is_name_byte label_byte text
-    (all_pass is_label_byte text (no_mapped (λ at. BadByte at) (position (λ b. not (is_label_byte b)) text)
-    (no_first_fault (begins_with_dash text) LeadingDash _ (no_first_fault (nat_lt 255 (length text)) TooLong _
-    (no_first_fault (length text == 0) Empty _ is)))))
+    (all_pass is_label_byte text (no_mapped (λ at. LabelFault.BadByte at) (position (λ b. not (is_label_byte b)) text)
+    (no_first_fault (begins_with_dash text) LabelFault.LeadingDash _ (no_first_fault (nat_lt 255 (length text)) LabelFault.TooLong _
+    (no_first_fault (length text == 0) LabelFault.Empty _ is)))))
 
 -- the bytes of a name of a path are from ! to ~
 pub name_bytes : (n : PathName) → name_fault n ≡ None → list_all is_name_byte n.bytes ≡ true
 name_bytes n none =
-    all_pass is_name_byte n.bytes (no_mapped (λ i. BadNameByte (n.at + i)) _
-    (no_first_fault (is_dots n.bytes) (DotName n.at) _ (no_first_fault (nat_lt 64 (length n.bytes)) (NameTooLong n.at) _
-    (no_first_fault (length n.bytes == 0) (EmptyName n.at) _ (ap is_none none)))))
+    all_pass is_name_byte n.bytes (no_mapped (λ i. PathFault.BadByte (n.at + i)) _
+    (no_first_fault (is_dots n.bytes) (PathFault.DotName n.at) _ (no_first_fault (nat_lt 64 (length n.bytes)) (PathFault.NameTooLong n.at) _
+    (no_first_fault (length n.bytes == 0) (PathFault.EmptyName n.at) _ (ap is_none none)))))
 
 of_letter : (on : Bool) (letter : ℕ) → is_name_byte letter ≡ true → list_all is_name_byte (when on letter) ≡ true
 of_letter true letter is = and_from _ _ is refl

@@ -7,7 +7,7 @@ use Rattle.smack_base.specs.Paths.{is_name_byte}
 use Rattle.rules_spec.specs.declared.Verdict.{Verdict}
 use Rattle.rules_spec.specs.Rulings.{Ruling}
 use Rattle.log_spec.specs.declared.Action.{Action}
-use Rattle.log_spec.specs.declared.Action.TheVariants.{Granted, Denied}
+use Rattle.log_spec.specs.declared.Action.TheVariants as Action
 use Rattle.log_spec.specs.Numerals.{numeral}
 use Rattle.log_spec.specs.Words.{line, name_at}
 
@@ -17,7 +17,7 @@ is_selected mode allowed = if allowed then (mode == 2) || (mode == 3) else (mode
 
 -- what came of a check
 abbrev pub outcome : Bool → Action
-outcome allowed = if allowed then Granted else Denied
+outcome allowed = if allowed then Action.Granted else Action.Denied
 
 abbrev pub selected_as : ℕ → Verdict → Option Action
 selected_as mode v = if is_selected mode v.allowed then Some (outcome v.allowed) else None
@@ -37,8 +37,8 @@ pub record Audited : Type 0 where
   pub case : ℕ
 
 abbrev pub action_text : Action → List ℕ
-action_text Granted = codes "granted"
-action_text Denied = codes "denied"
+action_text Action.Granted = codes "granted"
+action_text Action.Denied = codes "denied"
 
 -- a key and its value, as the system's log has them
 abbrev pub pair : List ℕ → List ℕ → List ℕ

@@ -7,10 +7,10 @@ use Rattle.text_spec.specs.Names.{place_of}
 use Rattle.script_spec.specs.declared.Verb.{Verb}
 use Rattle.script_spec.specs.declared.WordKind.{WordKind}
 use Rattle.script_spec.specs.declared.Cause.{Cause}
-use Rattle.script_spec.specs.declared.Cause.TheVariants.{Task, Verb as NoVerb, Words, Word, Text, Name, Wait as WaitCause, NotBuilt}
-use Rattle.script_spec.specs.declared.What.TheVariants.{Bytes, Lines, Tasks as LongTasks}
+use Rattle.script_spec.specs.declared.Cause.TheVariants as Cause
+use Rattle.script_spec.specs.declared.What.TheVariants as What
 use Rattle.script_spec.specs.declared.ScriptFault.{ScriptFault}
-use Rattle.script_spec.specs.declared.ScriptFault.TheVariants.{Malformed, TooLarge}
+use Rattle.script_spec.specs.declared.ScriptFault.TheVariants as ScriptFault
 use Rattle.script_spec.specs.Words.{verb_of, kinds_of, is_of_kind, bad_word, has_deep_path, is_task_name, is_unbuilt_verb, word_at}
 use Rattle.script_spec.specs.Lines.{ScriptLine, verb_in}
 use Rattle.script_spec.specs.Tasks.{Tasks, task_names, has_exit, calls_by, tasks_of, pid_of, is_gone, is_live}
@@ -55,7 +55,7 @@ no_first_cause : (bad : Bool) (cause : Cause) (more : List (Option Cause)) → f
 no_first_cause true cause more none = cc
 no_first_cause false cause more none = (refl, none)
 
-no_word_cause : (bad : Option ℕ) (more : List (Option Cause)) → first_cause (option_map (λ k. Word k) bad ∷ more) ≡ None
+no_word_cause : (bad : Option ℕ) (more : List (Option Cause)) → first_cause (option_map (λ k. Cause.Word k) bad ∷ more) ≡ None
     → (bad ≡ None) × (first_cause more ≡ None)
 no_word_cause None more none = (refl, none)
 no_word_cause (Some k) more none = cc
@@ -95,14 +95,14 @@ record IsGood (tasks : Tasks) (task : List ℕ) (first : Placed) (behind : List 
 words_good : (tasks : Tasks) (task : List ℕ) (first : Placed) (verb : Verb) (ws : List Placed) (text : Bool) → verb_of first.bytes ≡ Some verb
     → words_cause tasks task first verb ws text ≡ None → IsGood tasks task first ws
 words_good tasks task first verb ws text is none =
-    let built = no_first_cause (names_unbuilt_file verb ws) NotBuilt _ none in
-    let many = no_first_cause (not (length ws == length (kinds_of verb))) Words _ built.1 in
+    let built = no_first_cause (names_unbuilt_file verb ws) Cause.NotBuilt _ none in
+    let many = no_first_cause (not (length ws == length (kinds_of verb))) Cause.Words _ built.1 in
     let word = no_word_cause (bad_word (first ∷ []) (kinds_of verb) ws) _ many.1 in
-    let deep = no_first_cause (has_deep_path (kinds_of verb) ws) NotBuilt _ word.1 in
-    let whole = no_first_cause (not text) Text _ deep.1 in
-    let live = no_first_cause (not (is_live tasks task)) Task _ whole.1 in
-    let named = no_first_cause (not (is_name_good tasks verb ws)) Name _ live.1 in
-    let waits = no_first_cause (not (is_wait_good tasks (pid_of tasks task) verb ws)) WaitCause _ named.1 in
+    let deep = no_first_cause (has_deep_path (kinds_of verb) ws) Cause.NotBuilt _ word.1 in
+    let whole = no_first_cause (not text) Cause.Text _ deep.1 in
+    let live = no_first_cause (not (is_live tasks task)) Cause.Task _ whole.1 in
+    let named = no_first_cause (not (is_name_good tasks verb ws)) Cause.Name _ live.1 in
+    let waits = no_first_cause (not (is_wait_good tasks (pid_of tasks task) verb ws)) Cause.Wait _ named.1 in
     record {
       verb = verb;
       is = is;
@@ -115,7 +115,7 @@ words_good tasks task first verb ws text is none =
 unless_verb_bad : (name : List ℕ) → unless_verb name ≡ None → ⊥
 unless_verb_bad name none = by (is_unbuilt_verb name) none
   where
-    by : (unbuilt : Bool) → (if unbuilt then Some NotBuilt else Some NoVerb) ≡ None → ⊥
+    by : (unbuilt : Bool) → (if unbuilt then Some Cause.NotBuilt else Some Cause.Verb) ≡ None → ⊥
     by true none = cc
     by false none = cc
 
@@ -124,7 +124,7 @@ verb_good : (tasks : Tasks) (task : List ℕ) (first : Placed) (verb : Option Ve
 verb_good tasks task first None ws text is none = absurd (unless_verb_bad first.bytes none)
 verb_good tasks task first (Some verb) ws text is none = words_good tasks task first verb ws text is none
 
-past_task : (good : Bool) (cause : Option Cause) → (if good then cause else Some (Word 1)) ≡ None → cause ≡ None
+past_task : (good : Bool) (cause : Option Cause) → (if good then cause else Some (Cause.Word 1)) ≡ None → cause ≡ None
 past_task true cause none = none
 past_task false cause none = cc
 
@@ -167,7 +167,7 @@ good_words above l (t ∷ v ∷ ws) text none words task seq few =
 
 -- an item without a fault has a line without a cause
 no_cause : (lines : Bool) (line : ℕ) (cause : Option Cause) (more : List (Option ScriptFault))
-    → first_of (fault_if lines (TooLarge Lines) ∷ option_map (λ c. Malformed line c) cause ∷ more) ≡ None → (cause ≡ None) × (first_of more ≡ None)
+    → first_of (fault_if lines (ScriptFault.TooLarge What.Lines) ∷ option_map (λ c. ScriptFault.Malformed line c) cause ∷ more) ≡ None → (cause ≡ None) × (first_of more ≡ None)
 no_cause true line cause more none = cc
 no_cause false line None more none = (refl, none)
 no_cause false line (Some c) more none = cc
@@ -181,7 +181,7 @@ good_item above i none =
     let call = call_of above i in
     let parts = no_cause (nat_lt most_lines i.line) i.line (line_cause (tasks_of above) i.words (has_text i)) (limit_faults (above ++ call ∷ []) call) none in
     good_words above call i.words (has_text i) parts.0 refl refl refl
-    (ltb-false most_tasks (length (task_names (above ++ call ∷ []))) (within_limit (nat_lt most_tasks (length (task_names (above ++ call ∷ [])))) (TooLarge LongTasks) _ parts.1))
+    (ltb-false most_tasks (length (task_names (above ++ call ∷ []))) (within_limit (nat_lt most_tasks (length (task_names (above ++ call ∷ [])))) (ScriptFault.TooLarge What.Tasks) _ parts.1))
 
 -- what is read where nothing has a fault
 pub no_fault : (fault : Option ScriptFault) (more : Result (List ScriptLine) ScriptFault) (lines : List ScriptLine) → unless_fault fault more ≡ Ok lines
@@ -205,7 +205,7 @@ module _ (P : List ScriptLine → Type 0) (more : (above : List ScriptLine) (l :
   pub script_holds : P [] → (bytes : List ℕ) (lines : List ScriptLine) → parse bytes ≡ Ok lines → P lines
   script_holds none bytes lines is =
       calls_hold (lines_fault (lines_from 0 bytes)) [] (items 1 0 (lines_from 0 bytes)) lines none
-      (not_refused (nat_lt most_bytes (length bytes)) (TooLarge Bytes) (script_of (lines_from 0 bytes)) lines is)
+      (not_refused (nat_lt most_bytes (length bytes)) (ScriptFault.TooLarge What.Bytes) (script_of (lines_from 0 bytes)) lines is)
 
 -- good calls with one more
 good_push : (above ls : List ScriptLine) (l : ScriptLine) → AreGoodLines above ls → IsGoodLine (above ++ ls) l → AreGoodLines above (ls ++ l ∷ [])

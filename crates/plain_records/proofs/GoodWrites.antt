@@ -8,14 +8,14 @@ use Rattle.smack_base.specs.Labels.{label_fault, is_label}
 use Rattle.smack_base.specs.declared.label.LabelFault.{LabelFault}
 use Rattle.text_spec.specs.declared.BadLine.{BadLine}
 use Rattle.text_spec.specs.declared.LineFault.{LineFault}
-use Rattle.text_spec.specs.declared.LineFault.TheVariants.{Subject, Label}
+use Rattle.text_spec.specs.declared.LineFault.TheVariants as LineFault
 use Rattle.text_spec.specs.declared.RuleForm.{RuleForm}
-use Rattle.text_spec.specs.declared.RuleForm.TheVariants.{Long, Short, Change}
+use Rattle.text_spec.specs.declared.RuleForm.TheVariants as RuleForm
 use Rattle.text_spec.specs.Texts.{Placed, TextLine, lines_from}
 use Rattle.text_spec.specs.RuleTexts.{RuleWords, LineWord, line_answer, line_answers, rule_answers, before_more, unless_bare, blank_words, unless_fault, listed_fault, subject_line, subject_answer, subject_answers_from, subject_answers, list_word, words_answers, label_answers, is_dash, all_words, only_word, with_first, all_good}
 use Rattle.rule_text.proofs.GoodFields.{AreGood, answer_good}
 use Rattle.file_spec.specs.declared.RuleFile.{RuleFile}
-use Rattle.file_spec.specs.declared.RuleFile.TheVariants.{Load2, Load, ChangeRule, RevokeSubject, Onlycap, Ambient, Ptrace, Logging}
+use Rattle.file_spec.specs.declared.RuleFile.TheVariants as RuleFile
 use Rattle.file_spec.specs.Writes.{NamedWrite, NamedSet, NamedChange, NamedRevoke, NamedClear, NamedAdd, NamedAmbient, NamedPtrace, NamedLogging, set_write, change_write, line_of, digit_in, with_word, digit_or_fault, label_in, number_in, on_good, write_answers, writes_of_text}
 
 abbrev pub IsLabel : List ℕ → Type 0
@@ -88,7 +88,7 @@ good_label n named (Some f) p is = tt
 
 subject_line_good : (n : ℕ) (ws : List Placed) → IfOk (subject_line n ws) IsLabelWord
 subject_line_good n [] = tt
-subject_line_good n (s ∷ []) = good_label n (λ f. Subject f) (label_fault s.bytes) s refl
+subject_line_good n (s ∷ []) = good_label n (λ f. LineFault.Subject f) (label_fault s.bytes) s refl
 subject_line_good n (s ∷ w ∷ ws) = tt
 
 -- what the answer to a line with a word has, the line has
@@ -105,7 +105,7 @@ subject_lines_good n (l ∷ ls) =
 words_good : (ws : List LineWord) → AllGood IsLabelWord (words_answers ws)
 words_good [] = tt
 words_good (w ∷ ws) =
-    before_keeps (λ a. IfOk a IsLabelWord) (Some (list_word w)) (words_answers ws) (good_label w.line (λ f. Label f) (label_fault w.word.bytes) w.word refl)
+    before_keeps (λ a. IfOk a IsLabelWord) (Some (list_word w)) (words_answers ws) (good_label w.line (λ f. LineFault.Label f) (label_fault w.word.bytes) w.word refl)
     (words_good ws)
 
 labels_good : (ws : List LineWord) → AllGood IsLabelWord (label_answers ws)
@@ -138,7 +138,7 @@ number_good text last (Some n) p is = digit_good last p.bytes n is
 label_in_good : (text : List ℕ) → IfOk (label_in text) IsLabelWord
 label_in_good text =
     one_word_good IsLabelWord (λ p. unless_fault (line_of text p.at) (listed_fault p) p)
-    (λ p. good_label (line_of text p.at) (λ f. Label f) (label_fault p.bytes) p refl) (only_word (all_words text))
+    (λ p. good_label (line_of text p.at) (λ f. LineFault.Label f) (label_fault p.bytes) p refl) (only_word (all_words text))
 
 number_in_good : (last : ℕ) (text : List ℕ) → IfOk (number_in last text) (λ n. n ≤ last)
 number_in_good last text =
@@ -147,16 +147,16 @@ number_in_good last text =
 
 -- each good answer of a text for a file is a good write
 answers_good : (file : RuleFile) (text : List ℕ) → AllGood IsGoodWrite (write_answers file text)
-answers_good Load2 text = map_keeps AreGood IsGoodWrite set_write set_good (rule_answers Long text) (rules_good Long text)
-answers_good Load text = map_keeps AreGood IsGoodWrite set_write set_good (rule_answers Short text) (rules_good Short text)
-answers_good ChangeRule text = map_keeps AreGood IsGoodWrite change_write change_good (rule_answers Change text) (rules_good Change text)
-answers_good RevokeSubject text =
+answers_good RuleFile.Load2 text = map_keeps AreGood IsGoodWrite set_write set_good (rule_answers RuleForm.Long text) (rules_good RuleForm.Long text)
+answers_good RuleFile.Load text = map_keeps AreGood IsGoodWrite set_write set_good (rule_answers RuleForm.Short text) (rules_good RuleForm.Short text)
+answers_good RuleFile.ChangeRule text = map_keeps AreGood IsGoodWrite change_write change_good (rule_answers RuleForm.Change text) (rules_good RuleForm.Change text)
+answers_good RuleFile.RevokeSubject text =
     map_keeps IsLabelWord IsGoodWrite NamedRevoke (λ s good. good) (subject_answers text) (subject_lines_good 1 (lines_from 0 text))
-answers_good Onlycap text =
+answers_good RuleFile.Onlycap text =
     (tt, map_keeps IsLabelWord IsGoodWrite NamedAdd (λ l good. good) (label_answers (all_words text)) (labels_good (all_words text)))
-answers_good Ambient text = (on_good_keeps IsLabelWord IsGoodWrite NamedAmbient (λ l good. good) (label_in text) (label_in_good text), tt)
-answers_good Ptrace text = (on_good_keeps (λ n. n ≤ 2) IsGoodWrite NamedPtrace (λ n good. good) (number_in 2 text) (number_in_good 2 text), tt)
-answers_good Logging text = (on_good_keeps (λ n. n ≤ 3) IsGoodWrite NamedLogging (λ n good. good) (number_in 3 text) (number_in_good 3 text), tt)
+answers_good RuleFile.Ambient text = (on_good_keeps IsLabelWord IsGoodWrite NamedAmbient (λ l good. good) (label_in text) (label_in_good text), tt)
+answers_good RuleFile.Ptrace text = (on_good_keeps (λ n. n ≤ 2) IsGoodWrite NamedPtrace (λ n good. good) (number_in 2 text) (number_in_good 2 text), tt)
+answers_good RuleFile.Logging text = (on_good_keeps (λ n. n ≤ 3) IsGoodWrite NamedLogging (λ n good. good) (number_in 3 text) (number_in_good 3 text), tt)
 
 first_value : {A : Type 0} (r : Result A BadLine) (more : Result (List A) BadLine) (xs : List A) → with_first r more ≡ Ok xs
     → (x : A) × (rest : List A) × (r ≡ Ok x) × (more ≡ Ok rest) × (x ∷ rest ≡ xs)

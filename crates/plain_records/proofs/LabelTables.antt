@@ -8,9 +8,9 @@ use Rattle.label_table.proofs.LabelTables.{with_labels, predefined_is}
 use Rattle.file_spec.specs.declared.SmackFile.{SmackFile}
 use Rattle.file_spec.specs.Writes.{NamedWrite, NamedSet, NamedChange, NamedRevoke, NamedClear, NamedAdd, NamedAmbient, NamedPtrace, NamedLogging, names_of, file_of, read_as, writes_of_text, names_of_writes, names_of_text}
 use Rattle.script_spec.specs.declared.Verb.{Verb}
-use Rattle.script_spec.specs.declared.Verb.TheVariants.{Write, Ask, Wait, Task, Tree}
+use Rattle.script_spec.specs.declared.Verb.TheVariants as Verb
 use Rattle.script_spec.specs.declared.WordKind.{WordKind}
-use Rattle.script_spec.specs.declared.WordKind.TheVariants.{Label, Modes, File, Number, Path, Capability, TaskName, Signal, Way}
+use Rattle.script_spec.specs.declared.WordKind.TheVariants as WordKind
 use Rattle.script_spec.specs.Words.{kinds_of}
 use Rattle.script_spec.specs.Lines.{ScriptLine, word_in, label_words, text_labels, labels_by, labels_of, table_of}
 use Rattle.script_spec.specs.Grammar.{parse}
@@ -40,25 +40,25 @@ file_labels None text = tt
 file_labels (Some file) text = writes_labels (writes_of_text (read_as file) text) (good_writes (read_as file) text)
 
 behind_labels : (verb : Verb) (l : ScriptLine) → AllByRecursion IsLabel (text_labels verb l)
-behind_labels Write l = file_labels (file_of (word_in 1 l)) l.text.bytes
-behind_labels Ask l = tt
-behind_labels Wait l = tt
-behind_labels (Task verb) l = tt
-behind_labels (Tree verb) l = tt
+behind_labels Verb.Write l = file_labels (file_of (word_in 1 l)) l.text.bytes
+behind_labels Verb.Ask l = tt
+behind_labels Verb.Wait l = tt
+behind_labels (Verb.Task verb) l = tt
+behind_labels (Verb.Tree verb) l = tt
 
 -- the words of kinds that stand for labels are labels
 kind_labels : (before : List Placed) (ds : List WordKind) (ws : List Placed) → AreOfKinds before ds ws → AllByRecursion IsLabel (label_words ds ws)
 kind_labels before [] ws kinds = tt
 kind_labels before (d ∷ ds) [] kinds = tt
-kind_labels before (Label ∷ ds) (w ∷ ws) kinds = (kinds.0, kind_labels (before ++ w ∷ []) ds ws kinds.1)
-kind_labels before (Modes ∷ ds) (w ∷ ws) kinds = kind_labels (before ++ w ∷ []) ds ws kinds.1
-kind_labels before (File ∷ ds) (w ∷ ws) kinds = kind_labels (before ++ w ∷ []) ds ws kinds.1
-kind_labels before (Number ∷ ds) (w ∷ ws) kinds = kind_labels (before ++ w ∷ []) ds ws kinds.1
-kind_labels before (Path ∷ ds) (w ∷ ws) kinds = kind_labels (before ++ w ∷ []) ds ws kinds.1
-kind_labels before (Capability ∷ ds) (w ∷ ws) kinds = kind_labels (before ++ w ∷ []) ds ws kinds.1
-kind_labels before (TaskName ∷ ds) (w ∷ ws) kinds = kind_labels (before ++ w ∷ []) ds ws kinds.1
-kind_labels before (Signal ∷ ds) (w ∷ ws) kinds = kind_labels (before ++ w ∷ []) ds ws kinds.1
-kind_labels before (Way ∷ ds) (w ∷ ws) kinds = kind_labels (before ++ w ∷ []) ds ws kinds.1
+kind_labels before (WordKind.Label ∷ ds) (w ∷ ws) kinds = (kinds.0, kind_labels (before ++ w ∷ []) ds ws kinds.1)
+kind_labels before (WordKind.Modes ∷ ds) (w ∷ ws) kinds = kind_labels (before ++ w ∷ []) ds ws kinds.1
+kind_labels before (WordKind.File ∷ ds) (w ∷ ws) kinds = kind_labels (before ++ w ∷ []) ds ws kinds.1
+kind_labels before (WordKind.Number ∷ ds) (w ∷ ws) kinds = kind_labels (before ++ w ∷ []) ds ws kinds.1
+kind_labels before (WordKind.Path ∷ ds) (w ∷ ws) kinds = kind_labels (before ++ w ∷ []) ds ws kinds.1
+kind_labels before (WordKind.Capability ∷ ds) (w ∷ ws) kinds = kind_labels (before ++ w ∷ []) ds ws kinds.1
+kind_labels before (WordKind.TaskName ∷ ds) (w ∷ ws) kinds = kind_labels (before ++ w ∷ []) ds ws kinds.1
+kind_labels before (WordKind.Signal ∷ ds) (w ∷ ws) kinds = kind_labels (before ++ w ∷ []) ds ws kinds.1
+kind_labels before (WordKind.Way ∷ ds) (w ∷ ws) kinds = kind_labels (before ++ w ∷ []) ds ws kinds.1
 
 -- the labels of a call of a script are labels
 line_labels : (above : List ScriptLine) (l : ScriptLine) → IsGoodLine above l → AllByRecursion IsLabel (labels_of l)

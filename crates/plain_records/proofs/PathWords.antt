@@ -5,7 +5,7 @@ use Rattle.std.specs.Option.{IfSome}
 use Rattle.std.specs.Result.{result_ok}
 use Rattle.std.proofs.lemmas.Bool.{le-leb, eqb-false, and_from}
 use Rattle.smack_base.specs.declared.path.PathFault.{PathFault}
-use Rattle.smack_base.specs.declared.path.PathFault.TheVariants.{NotAbsolute, TooDeep}
+use Rattle.smack_base.specs.declared.path.PathFault.TheVariants as PathFault
 use Rattle.smack_base.specs.Paths.{PathName, is_slash, is_name_byte, names_from, name_fault, first_path_fault, unless_bad_name, names_of}
 use Rattle.log_spec.proofs.PrintedBytes.{name_bytes}
 use Rattle.log_spec.specs.Audits.{is_word}
@@ -48,7 +48,7 @@ named_are_words : (fault : Option PathFault) (names : List PathName) → (fault 
 named_are_words (Some f) names words = tt
 named_are_words None names words = by (nat_lt 32 (length names))
   where
-    by : (deep : Bool) → IfSome (result_ok (if deep then Err TooDeep else Ok (map (λ n. n.bytes) names))) AreWords
+    by : (deep : Bool) → IfSome (result_ok (if deep then Err PathFault.TooDeep else Ok (map (λ n. n.bytes) names))) AreWords
     by true = tt
     by false = words refl
 
@@ -62,7 +62,7 @@ word_has_words : (word : List ℕ) → IfSome (path_in word) AreWords
 word_has_words [] = tt
 word_has_words (b ∷ bs) = by (is_slash b)
   where
-    by : (absolute : Bool) → IfSome (result_ok (if absolute then names_of bs else Err NotAbsolute)) AreWords
+    by : (absolute : Bool) → IfSome (result_ok (if absolute then names_of bs else Err PathFault.NotAbsolute)) AreWords
     by true = behind_slash_are_words bs
     by false = tt
 

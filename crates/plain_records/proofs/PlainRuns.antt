@@ -3,27 +3,27 @@ use Rattle.std.specs.List.{AllByRecursion}
 use Rattle.smack_base.specs.declared.modes.Modes.{Modes}
 use Rattle.smack_base.specs.declared.ids.LabelId.{LabelId}
 use Rattle.smack_base.specs.declared.ids.Pid.{Pid}
-use Rattle.smack_base.specs.declared.cap.Cap.TheVariants.{MacAdmin}
+use Rattle.smack_base.specs.declared.cap.Cap.TheVariants as Cap
 use Rattle.smack_base.specs.declared.rule_op.RuleOp.{RuleOp}
 use Rattle.rules_spec.specs.Rulings.{ruling}
 use Rattle.rules_spec.specs.Creds.{is_effective}
 use Rattle.text_spec.specs.Names.{id_of}
 use Rattle.file_spec.specs.declared.Refusal.{Refusal}
-use Rattle.file_spec.specs.declared.Refusal.TheVariants.{NotPrivileged}
+use Rattle.file_spec.specs.declared.Refusal.TheVariants as Refusal
 use Rattle.file_spec.specs.declared.Compiled.{Compiled}
-use Rattle.file_spec.specs.declared.Compiled.TheVariants.{Rules, SelfRules, Relabels}
+use Rattle.file_spec.specs.declared.Compiled.TheVariants as Compiled
 use Rattle.file_spec.specs.Files.{compiled}
 use Rattle.script_spec.specs.declared.Verb.{Verb}
-use Rattle.script_spec.specs.declared.Verb.TheVariants.{Write, Ask as AskVerb, Wait as WaitVerb, Task as TaskVerb, Tree as TreeVerb}
+use Rattle.script_spec.specs.declared.Verb.TheVariants as Verb
 use Rattle.script_spec.specs.Words.{is_file_name}
 use Rattle.script_spec.specs.Lines.{ScriptLine, word_in, verb_in}
-use Rattle.world_spec.specs.declared.TaskCall.TheVariants.{SelfRules as RulesOfTask, Relabels as LabelsOfTask}
+use Rattle.world_spec.specs.declared.TaskCall.TheVariants as TaskCall
 use Rattle.world_spec.specs.declared.Call.{Call}
-use Rattle.world_spec.specs.declared.Call.TheVariants.{Task, Tree}
+use Rattle.world_spec.specs.declared.Call.TheVariants as Call
 use Rattle.world_spec.specs.Worlds.{creds_of}
 use Rattle.record_spec.specs.declared.AskedLine.{AskedLine}
 use Rattle.record_spec.specs.declared.AskedWhat.{AskedWhat}
-use Rattle.record_spec.specs.declared.AskedWhat.TheVariants.{Refused, Wait}
+use Rattle.record_spec.specs.declared.AskedWhat.TheVariants as AskedWhat
 use Rattle.replay_spec.specs.Calls.{pid_in, of_one, task_call, tree_call, file_call, call_by}
 use Rattle.replay_spec.specs.Plain.{HasId, HasPid, IsPlainOp, IsPlainBatch, IsPlainCall, IsPlainEntry, IsPlainWhat, IsPlainAsked}
 use Rattle.replay_spec.specs.Replays.{Run, run_first, number_of_task, is_before, with_asked, noted, published, stepped_by, written, answered, awaited, entered, modes_in, after_verb, after_line, run_of}
@@ -44,7 +44,7 @@ pub record IsPlainRun (table names : List (List ℕ)) (run : Run) : Type 0 where
 
 -- a write of a script is to a word that names a file
 abbrev pub HasFileName : ScriptLine → Type 0
-HasFileName l = verb_in l ≡ Some Write → is_file_name (word_in 1 l) ≡ true
+HasFileName l = verb_in l ≡ Some Verb.Write → is_file_name (word_in 1 l) ≡ true
 
 all_asked : (P : AskedLine → Type 0) (asked : List AskedLine) (a : AskedLine) → AllByRecursion P asked → P a → AllByRecursion P (with_asked asked a)
 all_asked P [] a all one = (one, tt)
@@ -89,18 +89,18 @@ module _ (table names : List (List ℕ)) (first : 0 < length table) where
 
   -- a write keeps a run plain, whatever its text becomes
   written_is_plain : (run : Run) (l : ScriptLine) (made : Result Compiled Refusal) → IsPlainRun table names run → is_file_name (word_in 1 l) ≡ true
-      → ((ops : List RuleOp) → made ≡ Ok (Rules ops) → AllByRecursion (IsPlainOp table) ops)
-      → ((call : Call) → of_one (file_call made) (λ c. Task c) ≡ Some call → IsPlainCall table names call) → IsPlainRun table names (written run l made)
-  written_is_plain run l (Ok (Rules ops)) plain named known gives = by (is_effective (creds_of run.world (number_of_task run l)) MacAdmin (ruling run.journal))
+      → ((ops : List RuleOp) → made ≡ Ok (Compiled.Rules ops) → AllByRecursion (IsPlainOp table) ops)
+      → ((call : Call) → of_one (file_call made) (λ c. Call.Task c) ≡ Some call → IsPlainCall table names call) → IsPlainRun table names (written run l made)
+  written_is_plain run l (Ok (Compiled.Rules ops)) plain named known gives = by (is_effective (creds_of run.world (number_of_task run l)) Cap.MacAdmin (ruling run.journal))
     where
-      by : (privileged : Bool) → IsPlainRun table names (if privileged then published run l ops else noted run l (Refused (word_in 1 l) NotPrivileged))
+      by : (privileged : Bool) → IsPlainRun table names (if privileged then published run l ops else noted run l (AskedWhat.Refused (word_in 1 l) Refusal.NotPrivileged))
       by true = published_is_plain run l ops plain (known ops refl)
-      by false = noted_is_plain run l (Refused (word_in 1 l) NotPrivileged) plain named
-  written_is_plain run l (Ok (SelfRules rules)) plain named known gives =
-      stepped_is_plain run l (Task (RulesOfTask rules)) plain (gives (Task (RulesOfTask rules)) refl)
-  written_is_plain run l (Ok (Relabels list)) plain named known gives =
-      stepped_is_plain run l (Task (LabelsOfTask list)) plain (gives (Task (LabelsOfTask list)) refl)
-  written_is_plain run l (Err fault) plain named known gives = noted_is_plain run l (Refused (word_in 1 l) fault) plain named
+      by false = noted_is_plain run l (AskedWhat.Refused (word_in 1 l) Refusal.NotPrivileged) plain named
+  written_is_plain run l (Ok (Compiled.SelfRules rules)) plain named known gives =
+      stepped_is_plain run l (Call.Task (TaskCall.SelfRules rules)) plain (gives (Call.Task (TaskCall.SelfRules rules)) refl)
+  written_is_plain run l (Ok (Compiled.Relabels list)) plain named known gives =
+      stepped_is_plain run l (Call.Task (TaskCall.Relabels list)) plain (gives (Call.Task (TaskCall.Relabels list)) refl)
+  written_is_plain run l (Err fault) plain named known gives = noted_is_plain run l (AskedWhat.Refused (word_in 1 l) fault) plain named
 
   answered_is_plain : (run : Run) (l : ScriptLine) (s o : Option LabelId) (m : Option Modes) → IsPlainRun table names run
       → ((id : LabelId) → s ≡ Some id → HasId table id) → ((id : LabelId) → o ≡ Some id → HasId table id)
@@ -114,7 +114,7 @@ module _ (table names : List (List ℕ)) (first : 0 < length table) where
   awaited_is_plain : (run : Run) (l : ScriptLine) (pid : Option Pid) → IsPlainRun table names run → ((p : Pid) → pid ≡ Some p → HasPid names p)
       → IsPlainRun table names (awaited run l pid)
   awaited_is_plain run l None plain known = plain
-  awaited_is_plain run l (Some pid) plain known = noted_is_plain run l (Wait pid) plain (known pid refl)
+  awaited_is_plain run l (Some pid) plain known = noted_is_plain run l (AskedWhat.Wait pid) plain (known pid refl)
 
   entered_is_plain : (run : Run) (l : ScriptLine) (given : Option Call) → IsPlainRun table names run
       → ((call : Call) → given ≡ Some call → IsPlainCall table names call) → IsPlainRun table names (entered run l given)
@@ -125,19 +125,19 @@ module _ (table names : List (List ℕ)) (first : 0 < length table) where
   after_verb_is_plain : (run : Run) (l : ScriptLine) (verb : Option Verb) → verb_in l ≡ verb → HasFileName l → IsPlainRun table names run
       → IsPlainRun table names (after_verb table names run l verb)
   after_verb_is_plain run l None is named plain = plain
-  after_verb_is_plain run l (Some Write) is named plain =
+  after_verb_is_plain run l (Some Verb.Write) is named plain =
       written_is_plain run l (compiled table (word_in 1 l) l.text.bytes) plain (named is) (compiled_is_plain table (word_in 1 l) l.text.bytes)
       (λ call gives. record { line = l; gives = ap (call_by table names l) is ∙ gives })
-  after_verb_is_plain run l (Some AskVerb) is named plain =
+  after_verb_is_plain run l (Some Verb.Ask) is named plain =
       answered_is_plain run l (id_of table (word_in 1 l)) (id_of table (word_in 2 l)) (modes_in (word_in 3 l)) plain
       (known_id table (word_in 1 l)) (known_id table (word_in 2 l))
-  after_verb_is_plain run l (Some WaitVerb) is named plain =
+  after_verb_is_plain run l (Some Verb.Wait) is named plain =
       awaited_is_plain run l (pid_in names (word_in 1 l)) plain (known_pid names (word_in 1 l))
-  after_verb_is_plain run l (Some (TaskVerb verb)) is named plain =
-      entered_is_plain run l (of_one (task_call table names l verb) (λ call. Task call)) plain
+  after_verb_is_plain run l (Some (Verb.Task verb)) is named plain =
+      entered_is_plain run l (of_one (task_call table names l verb) (λ call. Call.Task call)) plain
       (λ call gives. record { line = l; gives = ap (call_by table names l) is ∙ gives })
-  after_verb_is_plain run l (Some (TreeVerb verb)) is named plain =
-      entered_is_plain run l (of_one (tree_call l verb) (λ call. Tree call)) plain
+  after_verb_is_plain run l (Some (Verb.Tree verb)) is named plain =
+      entered_is_plain run l (of_one (tree_call l verb) (λ call. Call.Tree call)) plain
       (λ call gives. record { line = l; gives = ap (call_by table names l) is ∙ gives })
 
   -- lines whose writes name files keep a run plain

@@ -2,17 +2,17 @@ use Rattle.std.proofs.Common.{◌≡◌, ◌<◌, ℕ, Bool, true, false, if◌t
 use Rattle.std.specs.List.{AllByRecursion}
 use Rattle.smack_base.specs.declared.ids.LabelId.{LabelId}
 use Rattle.smack_base.specs.declared.cap.Cap.{Cap}
-use Rattle.smack_base.specs.declared.cap.Cap.TheVariants.{MacAdmin, MacOverride, SysPtrace}
+use Rattle.smack_base.specs.declared.cap.Cap.TheVariants as Cap
 use Rattle.rules_spec.specs.Rulings.{Ruling}
 use Rattle.rules_spec.specs.Creds.{Creds, is_effective, with_label, without_cap}
 use Rattle.world_spec.specs.declared.Question.{Question}
-use Rattle.world_spec.specs.declared.Question.TheVariants.{Own, Attach}
-use Rattle.world_spec.specs.declared.Part.TheVariants.{Refuses}
-use Rattle.world_spec.specs.declared.Why.TheVariants.{NoSuchTask}
-use Rattle.world_spec.specs.declared.TaskCall.TheVariants.{Fork, Exit, Relabel, DropCap, SelfRules, Relabels, Kill, Take, TraceRead, TraceAttach}
-use Rattle.world_spec.specs.declared.TreeCall.TheVariants.{Create, Unlink, ListDir}
+use Rattle.world_spec.specs.declared.Question.TheVariants as Question
+use Rattle.world_spec.specs.declared.Part.TheVariants as Part
+use Rattle.world_spec.specs.declared.Why.TheVariants as Why
+use Rattle.world_spec.specs.declared.TaskCall.TheVariants as TaskCall
+use Rattle.world_spec.specs.declared.TreeCall.TheVariants as TreeCall
 use Rattle.world_spec.specs.declared.Call.{Call}
-use Rattle.world_spec.specs.declared.Call.TheVariants.{Task, Tree}
+use Rattle.world_spec.specs.declared.Call.TheVariants as Call
 use Rattle.world_spec.specs.Signals.{least_signal}
 use Rattle.world_spec.specs.Worlds.{World, TaskRow, is_live, live_task, creds_of, pending_of, changed_at}
 use Rattle.world_spec.specs.Questions.{call_asks, walk, walk_to_last, first_name, node_label}
@@ -38,12 +38,12 @@ walk_is_plain table w plain (n ∷ []) = (plain.root, (tt, tt))
 walk_is_plain table w plain (n ∷ m ∷ ns) = walk_to_last_is_plain table w plain (n ∷ m ∷ ns)
 
 label_without_cap : (c : Creds) (cap : Cap) → (without_cap c cap).label ≡ c.label
-label_without_cap c MacAdmin = refl
-label_without_cap c MacOverride = refl
-label_without_cap c SysPtrace = refl
+label_without_cap c Cap.MacAdmin = refl
+label_without_cap c Cap.MacOverride = refl
+label_without_cap c Cap.SysPtrace = refl
 
 relabelled_label : (c : Creds) (version : Ruling) (l : LabelId) → (relabelled c version l).label ≡ l
-relabelled_label c version l = by (is_effective c MacAdmin version)
+relabelled_label c version l = by (is_effective c Cap.MacAdmin version)
   where
     by : (privileged : Bool) → (if privileged then with_label c l else record (with_label c l) { relabels = [] }).label ≡ l
     by true = refl
@@ -56,29 +56,29 @@ module _ (table : List (List ℕ)) (first : 0 < length table) (w : World) (plain
 
   -- the parts of a call in a plain world are plain
   parts_are_plain : (call : Call) → AllByRecursion (IsPlainPart table) (call_asks w version task (creds_of w task) call)
-  parts_are_plain (Task (Fork pid)) = (tt, (refl, tt))
-  parts_are_plain (Task Exit) = tt
-  parts_are_plain (Task (Relabel l)) = (tt, tt)
-  parts_are_plain (Task (DropCap cap)) = tt
-  parts_are_plain (Task (SelfRules rules)) = (refl, tt)
-  parts_are_plain (Task (Relabels list)) = (tt, (refl, tt))
-  parts_are_plain (Task (Kill pid sig)) = (tt, (other_label_is_known table first w plain (live_task w.tasks pid), (tt, tt)))
-  parts_are_plain (Task Take) = (tt, tt)
-  parts_are_plain (Task (TraceRead pid)) = (tt, (other_label_is_known table first w plain (live_task w.tasks pid), tt))
-  parts_are_plain (Task (TraceAttach pid)) = (tt, (other_label_is_known table first w plain (live_task w.tasks pid), tt))
-  parts_are_plain (Tree (Create path)) =
+  parts_are_plain (Call.Task (TaskCall.Fork pid)) = (tt, (refl, tt))
+  parts_are_plain (Call.Task TaskCall.Exit) = tt
+  parts_are_plain (Call.Task (TaskCall.Relabel l)) = (tt, tt)
+  parts_are_plain (Call.Task (TaskCall.DropCap cap)) = tt
+  parts_are_plain (Call.Task (TaskCall.SelfRules rules)) = (refl, tt)
+  parts_are_plain (Call.Task (TaskCall.Relabels list)) = (tt, (refl, tt))
+  parts_are_plain (Call.Task (TaskCall.Kill pid sig)) = (tt, (other_label_is_known table first w plain (live_task w.tasks pid), (tt, tt)))
+  parts_are_plain (Call.Task TaskCall.Take) = (tt, tt)
+  parts_are_plain (Call.Task (TaskCall.TraceRead pid)) = (tt, (other_label_is_known table first w plain (live_task w.tasks pid), tt))
+  parts_are_plain (Call.Task (TaskCall.TraceAttach pid)) = (tt, (other_label_is_known table first w plain (live_task w.tasks pid), tt))
+  parts_are_plain (Call.Tree (TreeCall.Create path)) =
       (tt, all_append (IsPlainPart table) (walk_to_last w path) _ (walk_to_last_is_plain table w plain path) (plain.root, (tt, (refl, tt))))
-  parts_are_plain (Tree (Unlink path)) =
+  parts_are_plain (Call.Tree (TreeCall.Unlink path)) =
       (tt, all_append (IsPlainPart table) (walk w path) _ (walk_is_plain table w plain path) (plain.root, (node_label_is_known path, tt)))
-  parts_are_plain (Tree (ListDir path at)) =
+  parts_are_plain (Call.Tree (TreeCall.ListDir path at)) =
       all_append (IsPlainPart table) (walk w path) _ (walk_is_plain table w plain path) (node_label_is_known path, (tt, tt))
 
   -- a task's question on a known label has a plain verdict
   question_is_plain : (q : Question) → IsPlainQuestion table q → IsPlainVerdict table (verdict_of w version task q)
   unfolding verdict_by_creds
-  question_is_plain (Own o m) known =
+  question_is_plain (Question.Own o m) known =
       verdict_is_plain table (creds_of w task) version (creds_of w task).label o m (task_label_is_known table first w plain task) known
-  question_is_plain (Attach o) known = attach_is_plain table (creds_of w task) version o (task_label_is_known table first w plain task) known
+  question_is_plain (Question.Attach o) known = attach_is_plain table (creds_of w task) version o (task_label_is_known table first w plain task) known
 
   -- tasks that are plain leave the world plain
   abbrev left : List TaskRow → World
@@ -104,41 +104,41 @@ module _ (table : List (List ℕ)) (first : 0 < length table) (w : World) (plain
   step_by_effect : (call : Call) → IsPlainEffect table (effect w version task call) → IsPlainStepped table (step w version task call)
   step_by_effect call done = step_by_parts table w version task call question_is_plain (tt, parts_are_plain call) plain done
 
-  refused_at_root : IsPlainStepped table (step w version task (Tree (Create [])))
+  refused_at_root : IsPlainStepped table (step w version task (Call.Tree (TreeCall.Create [])))
   refused_at_root = by (not (is_live w.tasks task))
     where
       by : (gone : Bool)
-          → IsPlainStepped table (let through = went (verdict_of w version task) (Refuses gone NoSuchTask ∷ call_asks w version task (creds_of w task) (Tree (Create []))) in
-          stepped w (effect w version task (Tree (Create []))) through.checks through.stop)
+          → IsPlainStepped table (let through = went (verdict_of w version task) (Part.Refuses gone Why.NoSuchTask ∷ call_asks w version task (creds_of w task) (Call.Tree (TreeCall.Create []))) in
+          stepped w (effect w version task (Call.Tree (TreeCall.Create []))) through.checks through.stop)
       by true = record { world = plain; checks = tt; reply = tt }
       by false = record { world = plain; checks = tt; reply = tt }
 
   -- A call of plain words has a plain step; a path without a name is refused before a file is made of it.
   step_of_words : (names : List (List ℕ)) (call : Call) → IsReadCall table names call → IsPlainStepped table (step w version task call)
-  step_of_words names (Task (Fork pid)) read =
-      step_by_effect (Task (Fork pid))
+  step_of_words names (Call.Task (TaskCall.Fork pid)) read =
+      step_by_effect (Call.Task (TaskCall.Fork pid))
       (record { world = left_is_plain _ (all_append (IsPlainTask table) w.tasks _ plain.tasks (own_label, tt)); reply = tt })
-  step_of_words names (Task Exit) read = step_by_effect (Task Exit) (record { world = changed task _ (λ r known. known); reply = tt })
-  step_of_words names (Task (Relabel l)) read =
-      step_by_effect (Task (Relabel l))
+  step_of_words names (Call.Task TaskCall.Exit) read = step_by_effect (Call.Task TaskCall.Exit) (record { world = changed task _ (λ r known. known); reply = tt })
+  step_of_words names (Call.Task (TaskCall.Relabel l)) read =
+      step_by_effect (Call.Task (TaskCall.Relabel l))
       (record { world = changed task _ (λ r known. rw (relabelled_label (creds_of w task) version l) read); reply = tt })
-  step_of_words names (Task (DropCap cap)) read =
-      step_by_effect (Task (DropCap cap))
+  step_of_words names (Call.Task (TaskCall.DropCap cap)) read =
+      step_by_effect (Call.Task (TaskCall.DropCap cap))
       (record { world = changed task _ (λ r known. rw (label_without_cap (creds_of w task) cap) own_label); reply = tt })
-  step_of_words names (Task (SelfRules rules)) read =
-      step_by_effect (Task (SelfRules rules)) (record { world = changed task _ (λ r known. own_label); reply = tt })
-  step_of_words names (Task (Relabels list)) read =
-      step_by_effect (Task (Relabels list)) (record { world = changed task _ (λ r known. own_label); reply = tt })
-  step_of_words names (Task (Kill pid sig)) read =
-      step_by_effect (Task (Kill pid sig)) (record { world = signalled_is_plain (live_task w.tasks pid) sig; reply = tt })
-  step_of_words names (Task Take) read =
-      step_by_effect (Task Take)
+  step_of_words names (Call.Task (TaskCall.SelfRules rules)) read =
+      step_by_effect (Call.Task (TaskCall.SelfRules rules)) (record { world = changed task _ (λ r known. own_label); reply = tt })
+  step_of_words names (Call.Task (TaskCall.Relabels list)) read =
+      step_by_effect (Call.Task (TaskCall.Relabels list)) (record { world = changed task _ (λ r known. own_label); reply = tt })
+  step_of_words names (Call.Task (TaskCall.Kill pid sig)) read =
+      step_by_effect (Call.Task (TaskCall.Kill pid sig)) (record { world = signalled_is_plain (live_task w.tasks pid) sig; reply = tt })
+  step_of_words names (Call.Task TaskCall.Take) read =
+      step_by_effect (Call.Task TaskCall.Take)
       (record { world = changed task _ (λ r known. known); reply = signal_reply_is_plain (least_signal (pending_of w task)) })
-  step_of_words names (Task (TraceRead pid)) read = step_by_effect (Task (TraceRead pid)) (record { world = plain; reply = tt })
-  step_of_words names (Task (TraceAttach pid)) read = step_by_effect (Task (TraceAttach pid)) (record { world = plain; reply = tt })
-  step_of_words names (Tree (Create [])) read = refused_at_root
-  step_of_words names (Tree (Create (n ∷ ns))) read =
-      step_by_effect (Tree (Create (n ∷ ns)))
+  step_of_words names (Call.Task (TaskCall.TraceRead pid)) read = step_by_effect (Call.Task (TaskCall.TraceRead pid)) (record { world = plain; reply = tt })
+  step_of_words names (Call.Task (TaskCall.TraceAttach pid)) read = step_by_effect (Call.Task (TaskCall.TraceAttach pid)) (record { world = plain; reply = tt })
+  step_of_words names (Call.Tree (TreeCall.Create [])) read = refused_at_root
+  step_of_words names (Call.Tree (TreeCall.Create (n ∷ ns))) read =
+      step_by_effect (Call.Tree (TreeCall.Create (n ∷ ns)))
       (record {
         world = record {
           tasks = plain.tasks;
@@ -147,14 +147,14 @@ module _ (table : List (List ℕ)) (first : 0 < length table) (w : World) (plain
         };
         reply = tt;
       })
-  step_of_words names (Tree (Unlink path)) read =
-      step_by_effect (Tree (Unlink path))
+  step_of_words names (Call.Tree (TreeCall.Unlink path)) read =
+      step_by_effect (Call.Tree (TreeCall.Unlink path))
       (record {
         world = record { tasks = plain.tasks; root = plain.root; files = files_without_one table w.files (first_name path) plain.files };
         reply = tt;
       })
-  step_of_words names (Tree (ListDir path at)) read =
-      step_by_effect (Tree (ListDir path at)) (record { world = plain; reply = listed_are_words table w.files at plain.files })
+  step_of_words names (Call.Tree (TreeCall.ListDir path at)) read =
+      step_by_effect (Call.Tree (TreeCall.ListDir path at)) (record { world = plain; reply = listed_are_words table w.files at plain.files })
 
   -- the step of a plain call in a plain world is plain
   pub step_is_plain : (names : List (List ℕ)) (call : Call) → IsPlainCall table names call → IsPlainStepped table (step w version task call)

@@ -3,7 +3,7 @@ use Rattle.std.specs.List.{AllByRecursion}
 use Rattle.std.proofs.lemmas.Bool.{ne_eqb, and_right}
 use Rattle.smack_base.specs.declared.modes.Modes.{Modes}
 use Rattle.smack_base.specs.declared.ids.LabelId.{LabelId}
-use Rattle.smack_base.specs.declared.cap.Cap.TheVariants.{MacOverride, SysPtrace}
+use Rattle.smack_base.specs.declared.cap.Cap.TheVariants as Cap
 use Rattle.rules_spec.specs.declared.Verdict.{Verdict}
 use Rattle.rules_spec.specs.Rulings.{Ruling}
 use Rattle.rules_spec.specs.AskedModes.{read_write}
@@ -113,7 +113,7 @@ pub verdict_is_plain : (table : List (List ℕ)) (c : Creds) (version : Ruling) 
 verdict_is_plain table c version s o m subject object =
     overridden_is_plain
     table
-    (is_effective c MacOverride version)
+    (is_effective c Cap.MacOverride version)
     (restricted (self_rule c.self_rules s o) (verdict_of_cases version s o m))
     (question_unprivileged table c version s o m subject object)
 
@@ -134,6 +134,6 @@ attach_is_plain table c version o subject object = by (version.ptrace == 0)
 
     by : (asks : Bool)
         → IsPlainVerdict table (if asks then full_verdict c version c.label o read_write
-        else overridden (version.ptrace == 1 && is_effective c SysPtrace version) (same_label_verdict c.label o))
+        else overridden (version.ptrace == 1 && is_effective c Cap.SysPtrace version) (same_label_verdict c.label o))
     by true = verdict_is_plain table c version c.label o read_write subject object
-    by false = overridden_is_plain table (version.ptrace == 1 && is_effective c SysPtrace version) (same_label_verdict c.label o) alone
+    by false = overridden_is_plain table (version.ptrace == 1 && is_effective c Cap.SysPtrace version) (same_label_verdict c.label o) alone

@@ -1,8 +1,8 @@
 use Rattle.std.proofs.Common.{◌≡◌, List, [], ◌∷◌, ◌++◌, Option, Some, sym, subst, ◌∙◌}
 use Rattle.std.specs.List.{AllByRecursion}
 use Rattle.script_spec.specs.declared.Verb.{Verb}
-use Rattle.script_spec.specs.declared.Verb.TheVariants.{Write}
-use Rattle.script_spec.specs.declared.WordKind.TheVariants.{File, Number}
+use Rattle.script_spec.specs.declared.Verb.TheVariants as Verb
+use Rattle.script_spec.specs.declared.WordKind.TheVariants as WordKind
 use Rattle.script_spec.specs.Words.{kinds_of}
 use Rattle.script_spec.specs.Lines.{ScriptLine, table_of}
 use Rattle.script_spec.specs.Tasks.{task_names}
@@ -19,8 +19,8 @@ same_verb a b is = cc
 -- the first word behind the verb of a write names a file
 line_named : (above : List ScriptLine) (l : ScriptLine) → IsGoodLine above l → HasFileName l
 line_named above l good is =
-    kind_1 l good.first File (Number ∷ []) good.behind good.words
-    (subst (λ verb. AreOfKinds (good.first ∷ []) (kinds_of verb) good.behind) (same_verb good.verb Write (sym (good_verb above l good) ∙ is)) good.kinds)
+    kind_1 l good.first WordKind.File (WordKind.Number ∷ []) good.behind good.words
+    (subst (λ verb. AreOfKinds (good.first ∷ []) (kinds_of verb) good.behind) (same_verb good.verb Verb.Write (sym (good_verb above l good) ∙ is)) good.kinds)
 
 lines_named : (above lines : List ScriptLine) → AreGoodLines above lines → AllByRecursion HasFileName lines
 lines_named above [] good = tt

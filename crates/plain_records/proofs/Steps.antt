@@ -4,12 +4,12 @@ use Rattle.std.specs.Option.{IfSome}
 use Rattle.rules_spec.specs.declared.Verdict.{Verdict}
 use Rattle.rules_spec.specs.Rulings.{Ruling}
 use Rattle.world_spec.specs.declared.Question.{Question}
-use Rattle.world_spec.specs.declared.Question.TheVariants.{Own, Attach}
+use Rattle.world_spec.specs.declared.Question.TheVariants as Question
 use Rattle.world_spec.specs.declared.Part.{Part}
-use Rattle.world_spec.specs.declared.Part.TheVariants.{Refuses, Asks}
+use Rattle.world_spec.specs.declared.Part.TheVariants as Part
 use Rattle.world_spec.specs.declared.Call.{Call}
 use Rattle.world_spec.specs.declared.Reply.{Reply}
-use Rattle.world_spec.specs.declared.Reply.TheVariants.{Denied, Refused}
+use Rattle.world_spec.specs.declared.Reply.TheVariants as Reply
 use Rattle.world_spec.specs.Worlds.{World}
 use Rattle.world_spec.specs.Questions.{asks}
 use Rattle.world_spec.specs.Steps.{Went, asked, went, verdict_of, Effect, effect, Stepped, stepped, step}
@@ -18,13 +18,13 @@ use Rattle.plain_records.proofs.PlainWorlds.{IsPlainWorld}
 
 -- a question is on a known label
 abbrev pub IsPlainQuestion : List (List ℕ) → Question → Type 0
-IsPlainQuestion table (Own o m) = HasId table o
-IsPlainQuestion table (Attach o) = HasId table o
+IsPlainQuestion table (Question.Own o m) = HasId table o
+IsPlainQuestion table (Question.Attach o) = HasId table o
 
 -- a part of a call: a refusal gives a plain reply, a question is plain
 abbrev pub IsPlainPart : List (List ℕ) → Part → Type 0
-IsPlainPart table (Refuses holds why) = IsPlainReply (Refused why)
-IsPlainPart table (Asks question) = IsPlainQuestion table question
+IsPlainPart table (Part.Refuses holds why) = IsPlainReply (Reply.Refused why)
+IsPlainPart table (Part.Asks question) = IsPlainQuestion table question
 
 -- what the parts of a call came to is plain
 record IsPlainWent (table : List (List ℕ)) (w : Went) : Type 0 where
@@ -42,7 +42,7 @@ followed v more = record { checks = v ∷ more.checks; stop = more.stop }
 asked_is_plain : (table : List (List ℕ)) (v : Verdict) (more : Went) → IsPlainVerdict table v → IsPlainWent table more → IsPlainWent table (asked v more)
 asked_is_plain table v more plain rest = by v.allowed
   where
-    by : (allowed : Bool) → IsPlainWent table (if allowed then followed v more else ended (v ∷ []) (Denied v.case))
+    by : (allowed : Bool) → IsPlainWent table (if allowed then followed v more else ended (v ∷ []) (Reply.Denied v.case))
     by true = record { checks = (plain, rest.checks); stop = rest.stop }
     by false = record { checks = (plain, tt); stop = tt }
 
@@ -50,12 +50,12 @@ asked_is_plain table v more plain rest = by v.allowed
 went_is_plain : (table : List (List ℕ)) (verdict : Question → Verdict) → ((q : Question) → IsPlainQuestion table q → IsPlainVerdict table (verdict q))
     → (parts : List Part) → AllByRecursion (IsPlainPart table) parts → IsPlainWent table (went verdict parts)
 went_is_plain table verdict judged [] plain = record { checks = tt; stop = tt }
-went_is_plain table verdict judged (Refuses holds why ∷ more) plain = by holds (went_is_plain table verdict judged more plain.1)
+went_is_plain table verdict judged (Part.Refuses holds why ∷ more) plain = by holds (went_is_plain table verdict judged more plain.1)
   where
-    by : (refused : Bool) → IsPlainWent table (went verdict more) → IsPlainWent table (if refused then ended [] (Refused why) else went verdict more)
+    by : (refused : Bool) → IsPlainWent table (went verdict more) → IsPlainWent table (if refused then ended [] (Reply.Refused why) else went verdict more)
     by true rest = record { checks = tt; stop = plain.0 }
     by false rest = rest
-went_is_plain table verdict judged (Asks question ∷ more) plain =
+went_is_plain table verdict judged (Part.Asks question ∷ more) plain =
     asked_is_plain table (verdict question) (went verdict more) (judged question plain.0) (went_is_plain table verdict judged more plain.1)
 
 -- a call leaves, where nothing stops it, a plain world and a plain reply

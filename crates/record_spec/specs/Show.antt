@@ -1,12 +1,12 @@
 use Rattle.std.specs.Prelude.{ℕ, ◌+◌, List, [], ◌∷◌, ◌++◌, length, map, codes}
 use Rattle.std.specs.List.{flat_map}
 use Rattle.smack_base.specs.declared.rule_op.RuleOp.{RuleOp}
-use Rattle.smack_base.specs.declared.rule_op.RuleOp.TheVariants.{Set, Change, Revoke, OnlyClear, OnlyAdd, Ambient, Ptrace, Logging}
+use Rattle.smack_base.specs.declared.rule_op.RuleOp.TheVariants as RuleOp
 use Rattle.smack_base.specs.Modes.{letters_of}
 use Rattle.rules_spec.specs.declared.Batch.{Batch}
 use Rattle.record_spec.specs.declared.AskedLine.{AskedLine}
 use Rattle.record_spec.specs.declared.AskedWhat.{AskedWhat}
-use Rattle.record_spec.specs.declared.AskedWhat.TheVariants.{Ask, Refused, Wait}
+use Rattle.record_spec.specs.declared.AskedWhat.TheVariants as AskedWhat
 use Rattle.record_spec.specs.declared.RunRecord.{RunRecord}
 use Rattle.world_spec.specs.Replays.{version_of}
 use Rattle.log_spec.specs.Numerals.{numeral}
@@ -18,14 +18,14 @@ use Rattle.record_spec.specs.Refusals.{refusal_words}
 
 -- a rule write: its name and its words
 abbrev pub op_words : List (List ℕ) → RuleOp → List (List ℕ)
-op_words labels (Set s o m) = codes "set" ∷ triple labels s o m
-op_words labels (Change s o allow deny) = codes "change" ∷ triple labels s o allow ++ letters_of deny ∷ []
-op_words labels (Revoke s) = codes "revoke" ∷ name_at labels s ∷ []
-op_words labels OnlyClear = codes "only-clear" ∷ []
-op_words labels (OnlyAdd l) = codes "only-add" ∷ name_at labels l ∷ []
-op_words labels (Ambient l) = codes "ambient" ∷ name_at labels l ∷ []
-op_words labels (Ptrace n) = codes "ptrace" ∷ numeral n ∷ []
-op_words labels (Logging n) = codes "logging" ∷ numeral n ∷ []
+op_words labels (RuleOp.Set s o m) = codes "set" ∷ triple labels s o m
+op_words labels (RuleOp.Change s o allow deny) = codes "change" ∷ triple labels s o allow ++ letters_of deny ∷ []
+op_words labels (RuleOp.Revoke s) = codes "revoke" ∷ name_at labels s ∷ []
+op_words labels RuleOp.OnlyClear = codes "only-clear" ∷ []
+op_words labels (RuleOp.OnlyAdd l) = codes "only-add" ∷ name_at labels l ∷ []
+op_words labels (RuleOp.Ambient l) = codes "ambient" ∷ name_at labels l ∷ []
+op_words labels (RuleOp.Ptrace n) = codes "ptrace" ∷ numeral n ∷ []
+op_words labels (RuleOp.Logging n) = codes "logging" ∷ numeral n ∷ []
 
 abbrev pub op_line : List (List ℕ) → RuleOp → List ℕ
 op_line labels op = line (codes "o") (op_words labels op)
@@ -44,15 +44,15 @@ asked_head a = call_number a.task a.seq ∷ version_word a.version ∷ []
 
 -- what was asked, which file was written, or which task was waited for
 abbrev pub what_words : List (List ℕ) → List (List ℕ) → AskedWhat → List (List ℕ)
-what_words labels names (Ask v) = codes "ask" ∷ triple labels v.subject v.object v.modes
-what_words labels names (Refused file fault) = codes "write" ∷ file ∷ []
-what_words labels names (Wait pid) = codes "wait" ∷ task_name names pid ∷ []
+what_words labels names (AskedWhat.Ask v) = codes "ask" ∷ triple labels v.subject v.object v.modes
+what_words labels names (AskedWhat.Refused file fault) = codes "write" ∷ file ∷ []
+what_words labels names (AskedWhat.Wait pid) = codes "wait" ∷ task_name names pid ∷ []
 
 -- what was answered
 abbrev pub answer_words : AskedWhat → List (List ℕ)
-answer_words (Ask v) = decision v
-answer_words (Refused file fault) = refusal_words fault
-answer_words (Wait pid) = codes "ok" ∷ []
+answer_words (AskedWhat.Ask v) = decision v
+answer_words (AskedWhat.Refused file fault) = refusal_words fault
+answer_words (AskedWhat.Wait pid) = codes "ok" ∷ []
 
 -- an asked, refused or waited line and its answer
 abbrev pub asked_lines : List (List ℕ) → List (List ℕ) → AskedLine → List (List ℕ)

@@ -2,39 +2,39 @@ use Rattle.std.specs.Prelude.{ℕ, ◌==◌, if◌then◌else◌, List, [], ◌�
 use Rattle.std.specs.List.{list_any, insert, position_or_len}
 use Rattle.smack_base.specs.declared.ids.Pid.{Pid}
 use Rattle.world_spec.specs.declared.TaskCall.{TaskCall}
-use Rattle.world_spec.specs.declared.TaskCall.TheVariants.{Fork, Exit, Relabel, DropCap, SelfRules, Relabels, Kill, Take, TraceRead, TraceAttach}
+use Rattle.world_spec.specs.declared.TaskCall.TheVariants as TaskCall
 use Rattle.world_spec.specs.declared.Call.{Call}
-use Rattle.world_spec.specs.declared.Call.TheVariants.{Task, Tree}
+use Rattle.world_spec.specs.declared.Call.TheVariants as Call
 use Rattle.world_spec.specs.declared.Reply.{Reply}
-use Rattle.world_spec.specs.declared.Reply.TheVariants.{Ok as Done, Child, Signal, Names, Denied, Refused}
+use Rattle.world_spec.specs.declared.Reply.TheVariants as Reply
 use Rattle.world_spec.specs.declared.Entry.{Entry}
 use Rattle.record_spec.specs.declared.NumberedTask.{NumberedTask}
 
 abbrev pub task_forked : TaskCall → Option Pid
-task_forked (Fork pid) = Some pid
-task_forked Exit = None
-task_forked (Relabel l) = None
-task_forked (DropCap cap) = None
-task_forked (SelfRules rules) = None
-task_forked (Relabels labels) = None
-task_forked (Kill pid sig) = None
-task_forked Take = None
-task_forked (TraceRead pid) = None
-task_forked (TraceAttach pid) = None
+task_forked (TaskCall.Fork pid) = Some pid
+task_forked TaskCall.Exit = None
+task_forked (TaskCall.Relabel l) = None
+task_forked (TaskCall.DropCap cap) = None
+task_forked (TaskCall.SelfRules rules) = None
+task_forked (TaskCall.Relabels labels) = None
+task_forked (TaskCall.Kill pid sig) = None
+task_forked TaskCall.Take = None
+task_forked (TaskCall.TraceRead pid) = None
+task_forked (TaskCall.TraceAttach pid) = None
 
 -- the pid that a call forks
 abbrev pub forked : Call → Option Pid
-forked (Task call) = task_forked call
-forked (Tree call) = None
+forked (Call.Task call) = task_forked call
+forked (Call.Tree call) = None
 
 -- the number of the task that a call made
 abbrev pub child_number : Reply → Option ℕ
-child_number Done = None
-child_number (Child k) = Some k
-child_number (Signal sig) = None
-child_number (Names count names) = None
-child_number (Denied case) = None
-child_number (Refused why) = None
+child_number Reply.Ok = None
+child_number (Reply.Child k) = Some k
+child_number (Reply.Signal sig) = None
+child_number (Reply.Names count names) = None
+child_number (Reply.Denied case) = None
+child_number (Reply.Refused why) = None
 
 abbrev pub child_by : Option Pid → Option ℕ → Option NumberedTask
 child_by None k = None

@@ -2,16 +2,16 @@ use Rattle.std.proofs.Common.{◌≡◌, ℕ, true, if◌then◌else◌, length,
 use Rattle.std.specs.List.{AllByRecursion}
 use Rattle.smack_base.specs.Modes.{modes_of}
 use Rattle.smack_base.specs.declared.cap.Cap.{Cap}
-use Rattle.smack_base.specs.declared.cap.Cap.TheVariants.{MacAdmin, MacOverride, SysPtrace}
+use Rattle.smack_base.specs.declared.cap.Cap.TheVariants as Cap
 use Rattle.smack_base.specs.declared.ids.LabelId.{LabelId}
 use Rattle.smack_base.specs.declared.rule_op.Pair.{Pair}
-use Rattle.script_spec.specs.declared.TraceWay.TheVariants.{Read, Attach}
+use Rattle.script_spec.specs.declared.TraceWay.TheVariants as TraceWay
 use Rattle.script_spec.specs.Words.{absent, cap_of}
 use Rattle.script_spec.specs.Lines.{ScriptLine}
-use Rattle.world_spec.specs.declared.TaskCall.TheVariants.{Fork, Exit, Relabel, DropCap, SelfRules, Relabels, Kill, Take, TraceRead, TraceAttach}
-use Rattle.world_spec.specs.declared.TreeCall.TheVariants.{Create, Unlink, ListDir}
+use Rattle.world_spec.specs.declared.TaskCall.TheVariants as TaskCall
+use Rattle.world_spec.specs.declared.TreeCall.TheVariants as TreeCall
 use Rattle.world_spec.specs.declared.Call.{Call}
-use Rattle.world_spec.specs.declared.Call.TheVariants.{Task, Tree}
+use Rattle.world_spec.specs.declared.Call.TheVariants as Call
 use Rattle.log_spec.specs.Words.{name_at}
 use Rattle.log_spec.specs.Audits.{is_word}
 use Rattle.record_spec.specs.Entries.{cap_text, rule_words, call_verb, call_words, verb_words}
@@ -40,8 +40,8 @@ rules_in labels [] = []
 -- The call that some words are: that of a line with these words, but for the calls that are texts of files.
 abbrev call_in : List (List ℕ) → List (List ℕ) → List (List ℕ) → Option Call
 call_in labels names ws =
-    if begins_with (codes "self") ws then Some (Task (SelfRules (rules_in labels (drop 2 ws))))
-    else (if begins_with (codes "relabels") ws then Some (Task (Relabels (map (label_in labels) (drop 2 ws))))
+    if begins_with (codes "self") ws then Some (Call.Task (TaskCall.SelfRules (rules_in labels (drop 2 ws))))
+    else (if begins_with (codes "relabels") ws then Some (Call.Task (TaskCall.Relabels (map (label_in labels) (drop 2 ws))))
     else call_of_line labels names (line_of ws))
 
 -- a call is read back from its words: the verb is a word, and the others have no space and no line feed
@@ -51,14 +51,14 @@ pub record IsToldCall (labels names : List (List ℕ)) (call : Call) : Type 0 wh
   pub words : AreClean (call_words labels names call)
 
 cap_again : (cap : Cap) → cap_of (cap_text cap) ≡ Some cap
-cap_again MacAdmin = refl
-cap_again MacOverride = refl
-cap_again SysPtrace = refl
+cap_again Cap.MacAdmin = refl
+cap_again Cap.MacOverride = refl
+cap_again Cap.SysPtrace = refl
 
 cap_clean : (cap : Cap) → is_clean (cap_text cap) ≡ true
-cap_clean MacAdmin = refl
-cap_clean MacOverride = refl
-cap_clean SysPtrace = refl
+cap_clean Cap.MacAdmin = refl
+cap_clean Cap.MacOverride = refl
+cap_clean Cap.SysPtrace = refl
 
 module _ (labels names : List (List ℕ)) (table : IsLabelTable labels) (tasks : IsNameTable names) where
   rules_read : (rules : List Pair) → AllByRecursion (IsKnownPair labels) rules → rules_in labels (rule_words labels rules) ≡ rules
@@ -82,60 +82,60 @@ module _ (labels names : List (List ℕ)) (table : IsLabelTable labels) (tasks :
 
   -- a row for each call
   read_is_told : (call : Call) → IsReadCall labels names call → IsToldCall labels names call
-  read_is_told (Task (Fork pid)) read = record {
-    again = ap (λ o. of_one (of_one o (λ p. Fork p)) (λ c. Task c)) (task_again names tasks pid read);
+  read_is_told (Call.Task (TaskCall.Fork pid)) read = record {
+    again = ap (λ o. of_one (of_one o (λ p. TaskCall.Fork p)) (λ c. Call.Task c)) (task_again names tasks pid read);
     verb = refl;
     words = (named_clean names tasks pid read, tt);
   }
-  read_is_told (Task Exit) read = record { again = refl; verb = refl; words = tt }
-  read_is_told (Task (Relabel l)) read = record {
-    again = ap (λ o. of_one (of_one o (λ x. Relabel x)) (λ c. Task c)) (label_again labels table l read);
+  read_is_told (Call.Task TaskCall.Exit) read = record { again = refl; verb = refl; words = tt }
+  read_is_told (Call.Task (TaskCall.Relabel l)) read = record {
+    again = ap (λ o. of_one (of_one o (λ x. TaskCall.Relabel x)) (λ c. Call.Task c)) (label_again labels table l read);
     verb = refl;
     words = (name_clean labels table l read, tt);
   }
-  read_is_told (Task (DropCap cap)) read = record {
-    again = ap (λ o. of_one (of_one o (λ x. DropCap x)) (λ c. Task c)) (cap_again cap);
+  read_is_told (Call.Task (TaskCall.DropCap cap)) read = record {
+    again = ap (λ o. of_one (of_one o (λ x. TaskCall.DropCap x)) (λ c. Call.Task c)) (cap_again cap);
     verb = refl;
     words = (cap_clean cap, tt);
   }
-  read_is_told (Task (SelfRules rules)) read = record {
-    again = λ i. Some (Task (SelfRules (rules_read rules read i)));
+  read_is_told (Call.Task (TaskCall.SelfRules rules)) read = record {
+    again = λ i. Some (Call.Task (TaskCall.SelfRules (rules_read rules read i)));
     verb = refl;
     words = (numeral_clean (length rules), rules_clean rules read);
   }
-  read_is_told (Task (Relabels list)) read = record {
-    again = λ i. Some (Task (Relabels (labels_read list read i)));
+  read_is_told (Call.Task (TaskCall.Relabels list)) read = record {
+    again = λ i. Some (Call.Task (TaskCall.Relabels (labels_read list read i)));
     verb = refl;
     words = (numeral_clean (length list), labels_clean list read);
   }
-  read_is_told (Task (Kill pid sig)) read = record {
-    again = ap₂ (λ o n. of_one (of_two o n (λ p s. Kill p s)) (λ c. Task c)) (task_again names tasks pid read.0) (signal_again sig read.1);
+  read_is_told (Call.Task (TaskCall.Kill pid sig)) read = record {
+    again = ap₂ (λ o n. of_one (of_two o n (λ p s. TaskCall.Kill p s)) (λ c. Call.Task c)) (task_again names tasks pid read.0) (signal_again sig read.1);
     verb = refl;
     words = (named_clean names tasks pid read.0, (numeral_clean sig, tt));
   }
-  read_is_told (Task Take) read = record { again = refl; verb = refl; words = tt }
-  read_is_told (Task (TraceRead pid)) read = record {
-    again = ap (λ o. of_one (of_two (Some Read) o traced) (λ c. Task c)) (task_again names tasks pid read);
+  read_is_told (Call.Task TaskCall.Take) read = record { again = refl; verb = refl; words = tt }
+  read_is_told (Call.Task (TaskCall.TraceRead pid)) read = record {
+    again = ap (λ o. of_one (of_two (Some TraceWay.Read) o traced) (λ c. Call.Task c)) (task_again names tasks pid read);
     verb = refl;
     words = (refl, (named_clean names tasks pid read, tt));
   }
-  read_is_told (Task (TraceAttach pid)) read = record {
-    again = ap (λ o. of_one (of_two (Some Attach) o traced) (λ c. Task c)) (task_again names tasks pid read);
+  read_is_told (Call.Task (TaskCall.TraceAttach pid)) read = record {
+    again = ap (λ o. of_one (of_two (Some TraceWay.Attach) o traced) (λ c. Call.Task c)) (task_again names tasks pid read);
     verb = refl;
     words = (refl, (named_clean names tasks pid read, tt));
   }
-  read_is_told (Tree (Create path)) read = record {
-    again = ap (λ o. of_one (of_one o (λ p. Create p)) (λ c. Tree c)) (path_again path read);
+  read_is_told (Call.Tree (TreeCall.Create path)) read = record {
+    again = ap (λ o. of_one (of_one o (λ p. TreeCall.Create p)) (λ c. Call.Tree c)) (path_again path read);
     verb = refl;
     words = (path_clean path read, tt);
   }
-  read_is_told (Tree (Unlink path)) read = record {
-    again = ap (λ o. of_one (of_one o (λ p. Unlink p)) (λ c. Tree c)) (path_again path read);
+  read_is_told (Call.Tree (TreeCall.Unlink path)) read = record {
+    again = ap (λ o. of_one (of_one o (λ p. TreeCall.Unlink p)) (λ c. Call.Tree c)) (path_again path read);
     verb = refl;
     words = (path_clean path read, tt);
   }
-  read_is_told (Tree (ListDir path at)) read = record {
-    again = ap₂ (λ o n. of_one (of_two o n (λ p m. ListDir p m)) (λ c. Tree c)) (path_again path read.0) (number_again at read.1);
+  read_is_told (Call.Tree (TreeCall.ListDir path at)) read = record {
+    again = ap₂ (λ o n. of_one (of_two o n (λ p m. TreeCall.ListDir p m)) (λ c. Call.Tree c)) (path_again path read.0) (number_again at read.1);
     verb = refl;
     words = (path_clean path read.0, (numeral_clean at, tt));
   }

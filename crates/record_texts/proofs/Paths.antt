@@ -3,7 +3,7 @@ use Rattle.std.specs.List.{flat_map}
 use Rattle.std.specs.Result.{result_ok}
 use Rattle.std.proofs.lemmas.Bool.{eqb-true}
 use Rattle.smack_base.specs.declared.path.PathFault.{PathFault}
-use Rattle.smack_base.specs.declared.path.PathFault.TheVariants.{NotAbsolute, TooDeep}
+use Rattle.smack_base.specs.declared.path.PathFault.TheVariants as PathFault
 use Rattle.smack_base.specs.Paths.{PathName, is_slash, in_first_name, names_from, name_fault, first_path_fault, unless_bad_name, names_of, path_of}
 use Rattle.record_spec.specs.Entries.{path_text}
 use Rattle.replay_spec.specs.Calls.{path_in}
@@ -64,7 +64,7 @@ printed_names : (names : List PathName) (fault : Option PathFault) (path : List 
 printed_names names (Some f) path bs faults printed is = cc
 printed_names names None path bs faults printed is = by (nat_lt 32 (length names)) is
   where
-    by : (deep : Bool) → cond deep (Err TooDeep) (Ok (texts_of names)) ≡ Ok path → IsPrinted (47 ∷ bs) path
+    by : (deep : Bool) → cond deep (Err PathFault.TooDeep) (Ok (texts_of names)) ≡ Ok path → IsPrinted (47 ∷ bs) path
     by true is = cc
     by false is =
         let same : texts_of names ≡ path = cc in
@@ -78,7 +78,7 @@ printed_path : (text : List ℕ) (path : List (List ℕ)) → path_of text ≡ O
 printed_path [] path is = cc
 printed_path (b ∷ bs) path is = by (is_slash b) refl is
   where
-    by : (slash : Bool) → is_slash b ≡ slash → cond slash (names_of bs) (Err NotAbsolute) ≡ Ok path → IsPrinted (b ∷ bs) path
+    by : (slash : Bool) → is_slash b ≡ slash → cond slash (names_of bs) (Err PathFault.NotAbsolute) ≡ Ok path → IsPrinted (b ∷ bs) path
     by true slash is = rw (eqb-true b 47 slash) (printed_behind bs path is)
     by false slash is = cc
 

@@ -4,7 +4,7 @@ use Rattle.std.proofs.lemmas.Bool.{and_parts}
 use Rattle.smack_base.specs.Paths.{is_name_byte}
 use Rattle.record_spec.specs.declared.AskedLine.{AskedLine}
 use Rattle.record_spec.specs.declared.AskedWhat.{AskedWhat}
-use Rattle.record_spec.specs.declared.AskedWhat.TheVariants.{Ask, Refused, Wait}
+use Rattle.record_spec.specs.declared.AskedWhat.TheVariants as AskedWhat
 use Rattle.log_spec.specs.Words.{line}
 use Rattle.record_spec.specs.Show.{joined, asked_head, what_words, answer_words, asked_lines}
 use Rattle.text_spec.specs.Names.{IsLabelTable}
@@ -20,9 +20,9 @@ use Rattle.record_texts.proofs.Faults.{refusal_in, refusal_read, refusal_clean}
 -- what was asked, by the words of the question and those of its answer
 abbrev what_in : List (List ℕ) → List (List ℕ) → List (List ℕ) → List (List ℕ) → AskedWhat
 what_in labels names ws answer =
-    if begins_with (codes "ask") ws then Ask (verdict_in labels (drop 1 ws ++ answer))
-    else (if begins_with (codes "write") ws then Refused (word_at 1 ws) (refusal_in answer)
-    else Wait (task_in names (word_at 1 ws)))
+    if begins_with (codes "ask") ws then AskedWhat.Ask (verdict_in labels (drop 1 ws ++ answer))
+    else (if begins_with (codes "write") ws then AskedWhat.Refused (word_at 1 ws) (refusal_in answer)
+    else AskedWhat.Wait (task_in names (word_at 1 ws)))
 
 abbrev question_words : List (List ℕ) → List (List ℕ) → AskedLine → List (List ℕ)
 question_words labels names a = asked_head a ++ what_words labels names a.what
@@ -43,20 +43,20 @@ asked_is labels names place a rest =
 module _ (labels names : List (List ℕ)) (table : IsLabelTable labels) (tasks : IsNameTable names) where
   -- what was asked is read back from the words of both lines, which have no space and no line feed
   what_read : (what : AskedWhat) → IsPlainWhat labels names what → what_in labels names (what_words labels names what) (answer_words what) ≡ what
-  what_read (Ask v) plain = λ i. Ask (verdict_read labels table v plain.verdict i)
-  what_read (Refused file fault) plain = λ i. Refused file (refusal_read fault i)
-  what_read (Wait pid) plain = λ i. Wait (task_read names tasks pid plain i)
+  what_read (AskedWhat.Ask v) plain = λ i. AskedWhat.Ask (verdict_read labels table v plain.verdict i)
+  what_read (AskedWhat.Refused file fault) plain = λ i. AskedWhat.Refused file (refusal_read fault i)
+  what_read (AskedWhat.Wait pid) plain = λ i. AskedWhat.Wait (task_read names tasks pid plain i)
 
   what_clean : (what : AskedWhat) → IsPlainWhat labels names what → AreClean (what_words labels names what)
-  what_clean (Ask v) plain = (refl, triple_clean labels table v plain.verdict)
-  what_clean (Refused file fault) plain =
+  what_clean (AskedWhat.Ask v) plain = (refl, triple_clean labels table v plain.verdict)
+  what_clean (AskedWhat.Refused file fault) plain =
       (refl, (name_bytes_clean file (and_parts (nat_le 1 (length file) && nat_le (length file) 32) (list_all is_name_byte file) plain).1, tt))
-  what_clean (Wait pid) plain = (refl, (named_clean names tasks pid plain, tt))
+  what_clean (AskedWhat.Wait pid) plain = (refl, (named_clean names tasks pid plain, tt))
 
   answer_clean : (what : AskedWhat) → AreClean (answer_words what)
-  answer_clean (Ask v) = decision_clean v
-  answer_clean (Refused file fault) = refusal_clean fault
-  answer_clean (Wait pid) = (refl, tt)
+  answer_clean (AskedWhat.Ask v) = decision_clean v
+  answer_clean (AskedWhat.Refused file fault) = refusal_clean fault
+  answer_clean (AskedWhat.Wait pid) = (refl, tt)
 
   question_clean : (a : AskedLine) → IsPlainAsked labels names a → AreClean (question_words labels names a)
   question_clean a plain = (call_number_clean a.task a.seq, (version_clean a.version, what_clean a.what plain))

@@ -1,7 +1,7 @@
 use Rattle.std.proofs.Common.{◌≡◌, ℕ, List, codes, if◌then◌else◌, refl}
 use Rattle.smack_base.specs.Modes.{modes_of}
 use Rattle.smack_base.specs.declared.rule_op.RuleOp.{RuleOp}
-use Rattle.smack_base.specs.declared.rule_op.RuleOp.TheVariants.{Set, Change, Revoke, OnlyClear, OnlyAdd, Ambient, Ptrace, Logging}
+use Rattle.smack_base.specs.declared.rule_op.RuleOp.TheVariants as RuleOp
 use Rattle.record_spec.specs.Show.{op_words, op_line}
 use Rattle.text_spec.specs.Names.{IsLabelTable}
 use Rattle.replay_spec.specs.Plain.{IsPlainOp}
@@ -15,37 +15,37 @@ use Rattle.record_texts.proofs.Told.{told, word_at, begins_with, label_in, label
 -- the rule write that some words are
 abbrev op_in : List (List ℕ) → List (List ℕ) → RuleOp
 op_in labels ws =
-    if begins_with (codes "set") ws then Set (label_in labels (word_at 1 ws)) (label_in labels (word_at 2 ws)) (modes_of (word_at 3 ws))
-    else (if begins_with (codes "change") ws then Change (label_in labels (word_at 1 ws)) (label_in labels (word_at 2 ws)) (modes_of (word_at 3 ws)) (modes_of (word_at 4 ws))
-    else (if begins_with (codes "revoke") ws then Revoke (label_in labels (word_at 1 ws))
-    else (if begins_with (codes "only-add") ws then OnlyAdd (label_in labels (word_at 1 ws))
-    else (if begins_with (codes "ambient") ws then Ambient (label_in labels (word_at 1 ws))
-    else (if begins_with (codes "ptrace") ws then Ptrace (number_in (word_at 1 ws))
-    else (if begins_with (codes "logging") ws then Logging (number_in (word_at 1 ws))
-    else OnlyClear))))))
+    if begins_with (codes "set") ws then RuleOp.Set (label_in labels (word_at 1 ws)) (label_in labels (word_at 2 ws)) (modes_of (word_at 3 ws))
+    else (if begins_with (codes "change") ws then RuleOp.Change (label_in labels (word_at 1 ws)) (label_in labels (word_at 2 ws)) (modes_of (word_at 3 ws)) (modes_of (word_at 4 ws))
+    else (if begins_with (codes "revoke") ws then RuleOp.Revoke (label_in labels (word_at 1 ws))
+    else (if begins_with (codes "only-add") ws then RuleOp.OnlyAdd (label_in labels (word_at 1 ws))
+    else (if begins_with (codes "ambient") ws then RuleOp.Ambient (label_in labels (word_at 1 ws))
+    else (if begins_with (codes "ptrace") ws then RuleOp.Ptrace (number_in (word_at 1 ws))
+    else (if begins_with (codes "logging") ws then RuleOp.Logging (number_in (word_at 1 ws))
+    else RuleOp.OnlyClear))))))
 
 module _ (labels : List (List ℕ)) (table : IsLabelTable labels) where
   -- a rule write is read back from its words, which have no space and no line feed
   op_read : (op : RuleOp) → IsPlainOp labels op → op_in labels (op_words labels op) ≡ op
-  op_read (Set s o m) plain = λ i. Set (label_read labels table s plain.0 i) (label_read labels table o plain.1 i) (modes_read m i)
-  op_read (Change s o allow deny) plain = λ i. Change (label_read labels table s plain.0 i) (label_read labels table o plain.1 i) (modes_read allow i) (modes_read deny i)
-  op_read (Revoke s) plain = λ i. Revoke (label_read labels table s plain i)
-  op_read OnlyClear plain = refl
-  op_read (OnlyAdd l) plain = λ i. OnlyAdd (label_read labels table l plain i)
-  op_read (Ambient l) plain = λ i. Ambient (label_read labels table l plain i)
-  op_read (Ptrace n) plain = λ i. Ptrace (number_read n i)
-  op_read (Logging n) plain = λ i. Logging (number_read n i)
+  op_read (RuleOp.Set s o m) plain = λ i. RuleOp.Set (label_read labels table s plain.0 i) (label_read labels table o plain.1 i) (modes_read m i)
+  op_read (RuleOp.Change s o allow deny) plain = λ i. RuleOp.Change (label_read labels table s plain.0 i) (label_read labels table o plain.1 i) (modes_read allow i) (modes_read deny i)
+  op_read (RuleOp.Revoke s) plain = λ i. RuleOp.Revoke (label_read labels table s plain i)
+  op_read RuleOp.OnlyClear plain = refl
+  op_read (RuleOp.OnlyAdd l) plain = λ i. RuleOp.OnlyAdd (label_read labels table l plain i)
+  op_read (RuleOp.Ambient l) plain = λ i. RuleOp.Ambient (label_read labels table l plain i)
+  op_read (RuleOp.Ptrace n) plain = λ i. RuleOp.Ptrace (number_read n i)
+  op_read (RuleOp.Logging n) plain = λ i. RuleOp.Logging (number_read n i)
 
   op_clean : (op : RuleOp) → IsPlainOp labels op → AreClean (op_words labels op)
-  op_clean (Set s o m) plain = (refl, (name_clean labels table s plain.0, (name_clean labels table o plain.1, (modes_clean m, tt))))
-  op_clean (Change s o allow deny) plain =
+  op_clean (RuleOp.Set s o m) plain = (refl, (name_clean labels table s plain.0, (name_clean labels table o plain.1, (modes_clean m, tt))))
+  op_clean (RuleOp.Change s o allow deny) plain =
       (refl, (name_clean labels table s plain.0, (name_clean labels table o plain.1, (modes_clean allow, (modes_clean deny, tt)))))
-  op_clean (Revoke s) plain = (refl, (name_clean labels table s plain, tt))
-  op_clean OnlyClear plain = (refl, tt)
-  op_clean (OnlyAdd l) plain = (refl, (name_clean labels table l plain, tt))
-  op_clean (Ambient l) plain = (refl, (name_clean labels table l plain, tt))
-  op_clean (Ptrace n) plain = (refl, (numeral_clean n, tt))
-  op_clean (Logging n) plain = (refl, (numeral_clean n, tt))
+  op_clean (RuleOp.Revoke s) plain = (refl, (name_clean labels table s plain, tt))
+  op_clean RuleOp.OnlyClear plain = (refl, tt)
+  op_clean (RuleOp.OnlyAdd l) plain = (refl, (name_clean labels table l plain, tt))
+  op_clean (RuleOp.Ambient l) plain = (refl, (name_clean labels table l plain, tt))
+  op_clean (RuleOp.Ptrace n) plain = (refl, (numeral_clean n, tt))
+  op_clean (RuleOp.Logging n) plain = (refl, (numeral_clean n, tt))
 
   -- a printed rule write tells it
   pub op_told : Tells (IsPlainOp labels) (λ r. Unit {0}) (op_line labels)

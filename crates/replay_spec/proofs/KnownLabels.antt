@@ -4,41 +4,41 @@ use Rattle.std.specs.List.{AllByRecursion, flat_map}
 use Rattle.smack_base.specs.declared.ids.LabelId.{LabelId}
 use Rattle.smack_base.specs.declared.rule_op.Pair.{Pair}
 use Rattle.smack_base.specs.declared.rule_op.RuleOp.{RuleOp}
-use Rattle.smack_base.specs.declared.rule_op.RuleOp.TheVariants.{Set, Change, Revoke, OnlyClear, OnlyAdd, Ambient, Ptrace, Logging}
+use Rattle.smack_base.specs.declared.rule_op.RuleOp.TheVariants as RuleOp
 use Rattle.text_spec.specs.Texts.{Placed}
 use Rattle.text_spec.specs.declared.BadLine.{BadLine}
 use Rattle.text_spec.specs.Names.{id_of}
 use Rattle.label_table.proofs.Places.{id_is_named}
-use Rattle.file_spec.specs.declared.SelfFile.TheVariants.{LoadSelf2, LoadSelf, RelabelSelf}
+use Rattle.file_spec.specs.declared.SelfFile.TheVariants as SelfFile
 use Rattle.file_spec.specs.declared.SmackFile.{SmackFile}
-use Rattle.file_spec.specs.declared.SmackFile.TheVariants.{Rule, Own}
+use Rattle.file_spec.specs.declared.SmackFile.TheVariants as SmackFile
 use Rattle.file_spec.specs.declared.Refusal.{Refusal}
-use Rattle.file_spec.specs.declared.Refusal.TheVariants.{TooLong}
+use Rattle.file_spec.specs.declared.Refusal.TheVariants as Refusal
 use Rattle.file_spec.specs.declared.Compiled.{Compiled}
-use Rattle.file_spec.specs.declared.Compiled.TheVariants.{Rules, SelfRules, Relabels}
+use Rattle.file_spec.specs.declared.Compiled.TheVariants as Compiled
 use Rattle.file_spec.specs.Writes.{NamedWrite, NamedSet, NamedChange, NamedRevoke, NamedClear, NamedAdd, NamedAmbient, NamedPtrace, NamedLogging, file_of, read_as, line_of, writes_of_text}
 use Rattle.file_spec.specs.Files.{by_id, by_ids, of_label, of_pair, op_of, with_first_op, ops_of, ops_of_writes, pair_set, label_added, becomes, if_accepted, compiled_text, compiled_in, compiled}
 use Rattle.replay_spec.specs.Plain.{HasId}
 
 -- the labels of a write are known
 abbrev pub HasIds : List (List ℕ) → RuleOp → Type 0
-HasIds labels (Set s o m) = HasId labels s × HasId labels o
-HasIds labels (Change s o allow deny) = HasId labels s × HasId labels o
-HasIds labels (Revoke s) = HasId labels s
-HasIds labels OnlyClear = Unit {0}
-HasIds labels (OnlyAdd l) = HasId labels l
-HasIds labels (Ambient l) = HasId labels l
-HasIds labels (Ptrace n) = Unit {0}
-HasIds labels (Logging n) = Unit {0}
+HasIds labels (RuleOp.Set s o m) = HasId labels s × HasId labels o
+HasIds labels (RuleOp.Change s o allow deny) = HasId labels s × HasId labels o
+HasIds labels (RuleOp.Revoke s) = HasId labels s
+HasIds labels RuleOp.OnlyClear = Unit {0}
+HasIds labels (RuleOp.OnlyAdd l) = HasId labels l
+HasIds labels (RuleOp.Ambient l) = HasId labels l
+HasIds labels (RuleOp.Ptrace n) = Unit {0}
+HasIds labels (RuleOp.Logging n) = Unit {0}
 
 abbrev pub IsKnownPair : List (List ℕ) → Pair → Type 0
 IsKnownPair labels p = HasId labels p.s × HasId labels p.o
 
 -- the labels of what a text becomes are known
 abbrev pub IsKnownCompiled : List (List ℕ) → Compiled → Type 0
-IsKnownCompiled labels (Rules ops) = AllByRecursion (HasIds labels) ops
-IsKnownCompiled labels (SelfRules rules) = AllByRecursion (IsKnownPair labels) rules
-IsKnownCompiled labels (Relabels list) = AllByRecursion (HasId labels) list
+IsKnownCompiled labels (Compiled.Rules ops) = AllByRecursion (HasIds labels) ops
+IsKnownCompiled labels (Compiled.SelfRules rules) = AllByRecursion (IsKnownPair labels) rules
+IsKnownCompiled labels (Compiled.Relabels list) = AllByRecursion (HasId labels) list
 
 -- an id that a table gives, it has
 pub known_id : (labels : List (List ℕ)) (name : List ℕ) (l : LabelId) → id_of labels name ≡ Some l → HasId labels l
@@ -75,14 +75,14 @@ same_known labels op op' has is = let same : op ≡ op' = cc in subst (HasIds la
 
 -- the labels of a write by ids are known
 op_known : (labels : List (List ℕ)) (text : List ℕ) (w : NamedWrite) (op : RuleOp) → op_of labels text w ≡ Ok op → HasIds labels op
-op_known labels text (NamedSet s o m) op is = pair_known labels text s o (λ a b. Set a b m) op (λ a b x y. (x, y)) is
-op_known labels text (NamedChange s o allow deny) op is = pair_known labels text s o (λ a b. Change a b allow deny) op (λ a b x y. (x, y)) is
-op_known labels text (NamedRevoke s) op is = label_known labels text s (λ l. Revoke l) op (λ l x. x) is
-op_known labels text NamedClear op is = same_known labels OnlyClear op tt is
-op_known labels text (NamedAdd l) op is = label_known labels text l (λ a. OnlyAdd a) op (λ a x. x) is
-op_known labels text (NamedAmbient l) op is = label_known labels text l (λ a. Ambient a) op (λ a x. x) is
-op_known labels text (NamedPtrace n) op is = same_known labels (Ptrace n) op tt is
-op_known labels text (NamedLogging n) op is = same_known labels (Logging n) op tt is
+op_known labels text (NamedSet s o m) op is = pair_known labels text s o (λ a b. RuleOp.Set a b m) op (λ a b x y. (x, y)) is
+op_known labels text (NamedChange s o allow deny) op is = pair_known labels text s o (λ a b. RuleOp.Change a b allow deny) op (λ a b x y. (x, y)) is
+op_known labels text (NamedRevoke s) op is = label_known labels text s (λ l. RuleOp.Revoke l) op (λ l x. x) is
+op_known labels text NamedClear op is = same_known labels RuleOp.OnlyClear op tt is
+op_known labels text (NamedAdd l) op is = label_known labels text l (λ a. RuleOp.OnlyAdd a) op (λ a x. x) is
+op_known labels text (NamedAmbient l) op is = label_known labels text l (λ a. RuleOp.Ambient a) op (λ a x. x) is
+op_known labels text (NamedPtrace n) op is = same_known labels (RuleOp.Ptrace n) op tt is
+op_known labels text (NamedLogging n) op is = same_known labels (RuleOp.Logging n) op tt is
 
 -- what is made of a first write and of others
 pub first_op : (r : Result RuleOp Refusal) (more : Result (List RuleOp) Refusal) (ops : List RuleOp) → with_first_op r more ≡ Ok ops
@@ -115,31 +115,31 @@ picked labels P pick each [] all = tt
 picked labels P pick each (op ∷ ops) all = all_append P (pick op) (flat_map pick ops) (each op all.0) (picked labels P pick each ops all.1)
 
 pair_set_known : (labels : List (List ℕ)) (op : RuleOp) → HasIds labels op → AllByRecursion (IsKnownPair labels) (pair_set op)
-pair_set_known labels (Set s o m) has = (has, tt)
-pair_set_known labels (Change s o allow deny) has = tt
-pair_set_known labels (Revoke s) has = tt
-pair_set_known labels OnlyClear has = tt
-pair_set_known labels (OnlyAdd l) has = tt
-pair_set_known labels (Ambient l) has = tt
-pair_set_known labels (Ptrace n) has = tt
-pair_set_known labels (Logging n) has = tt
+pair_set_known labels (RuleOp.Set s o m) has = (has, tt)
+pair_set_known labels (RuleOp.Change s o allow deny) has = tt
+pair_set_known labels (RuleOp.Revoke s) has = tt
+pair_set_known labels RuleOp.OnlyClear has = tt
+pair_set_known labels (RuleOp.OnlyAdd l) has = tt
+pair_set_known labels (RuleOp.Ambient l) has = tt
+pair_set_known labels (RuleOp.Ptrace n) has = tt
+pair_set_known labels (RuleOp.Logging n) has = tt
 
 label_added_known : (labels : List (List ℕ)) (op : RuleOp) → HasIds labels op → AllByRecursion (HasId labels) (label_added op)
-label_added_known labels (Set s o m) has = tt
-label_added_known labels (Change s o allow deny) has = tt
-label_added_known labels (Revoke s) has = tt
-label_added_known labels OnlyClear has = tt
-label_added_known labels (OnlyAdd l) has = (has, tt)
-label_added_known labels (Ambient l) has = tt
-label_added_known labels (Ptrace n) has = tt
-label_added_known labels (Logging n) has = tt
+label_added_known labels (RuleOp.Set s o m) has = tt
+label_added_known labels (RuleOp.Change s o allow deny) has = tt
+label_added_known labels (RuleOp.Revoke s) has = tt
+label_added_known labels RuleOp.OnlyClear has = tt
+label_added_known labels (RuleOp.OnlyAdd l) has = (has, tt)
+label_added_known labels (RuleOp.Ambient l) has = tt
+label_added_known labels (RuleOp.Ptrace n) has = tt
+label_added_known labels (RuleOp.Logging n) has = tt
 
 becomes_known : (labels : List (List ℕ)) (file : SmackFile) (ops : List RuleOp) → AllByRecursion (HasIds labels) ops
     → IsKnownCompiled labels (becomes file ops)
-becomes_known labels (Rule file) ops all = all
-becomes_known labels (Own LoadSelf2) ops all = picked labels (IsKnownPair labels) pair_set (pair_set_known labels) ops all
-becomes_known labels (Own LoadSelf) ops all = picked labels (IsKnownPair labels) pair_set (pair_set_known labels) ops all
-becomes_known labels (Own RelabelSelf) ops all = picked labels (HasId labels) label_added (label_added_known labels) ops all
+becomes_known labels (SmackFile.Rule file) ops all = all
+becomes_known labels (SmackFile.Own SelfFile.LoadSelf2) ops all = picked labels (IsKnownPair labels) pair_set (pair_set_known labels) ops all
+becomes_known labels (SmackFile.Own SelfFile.LoadSelf) ops all = picked labels (IsKnownPair labels) pair_set (pair_set_known labels) ops all
+becomes_known labels (SmackFile.Own SelfFile.RelabelSelf) ops all = picked labels (HasId labels) label_added (label_added_known labels) ops all
 
 accepted_known : (labels : List (List ℕ)) (file : SmackFile) (made : Result (List RuleOp) Refusal) (c : Compiled)
     → ((ops : List RuleOp) → made ≡ Ok ops → AllByRecursion (HasIds labels) ops) → if_accepted file made ≡ Ok c → IsKnownCompiled labels c
@@ -158,7 +158,7 @@ in_file_known labels None text c is = cc
 in_file_known labels (Some file) text c is =
     accepted_known labels file (ops_of_writes labels text (writes_of_text (read_as file) text)) c
     (λ ops made. writes_known labels text (writes_of_text (read_as file) text) ops made)
-    (not_refused (nat_lt 65536 (length text)) TooLong (compiled_text labels file text) c is)
+    (not_refused (nat_lt 65536 (length text)) Refusal.TooLong (compiled_text labels file text) c is)
 
 -- the labels of what a text becomes are known by the table that it was made by
 pub compiled_known : (labels : List (List ℕ)) (name text : List ℕ) (c : Compiled) → compiled labels name text ≡ Ok c → IsKnownCompiled labels c

@@ -6,24 +6,24 @@ use Rattle.smack_base.specs.declared.ids.Pid.{Pid}
 use Rattle.text_spec.specs.Names.{place_of, has_name}
 use Rattle.file_spec.specs.declared.Refusal.{Refusal}
 use Rattle.file_spec.specs.declared.Compiled.{Compiled}
-use Rattle.file_spec.specs.declared.Compiled.TheVariants.{Rules, SelfRules as RulesOfText, Relabels as LabelsOfText}
+use Rattle.file_spec.specs.declared.Compiled.TheVariants as Compiled
 use Rattle.file_spec.specs.Files.{compiled}
 use Rattle.script_spec.specs.declared.TaskVerb.{TaskVerb}
-use Rattle.script_spec.specs.declared.TaskVerb.TheVariants.{Fork as ForkVerb, Exit as ExitVerb, Relabel as RelabelVerb, Drop, Kill as KillVerb, Take as TakeVerb, Trace}
+use Rattle.script_spec.specs.declared.TaskVerb.TheVariants as TaskVerb
 use Rattle.script_spec.specs.declared.TraceWay.{TraceWay}
-use Rattle.script_spec.specs.declared.TraceWay.TheVariants.{Read, Attach}
+use Rattle.script_spec.specs.declared.TraceWay.TheVariants as TraceWay
 use Rattle.script_spec.specs.declared.TreeVerb.{TreeVerb}
-use Rattle.script_spec.specs.declared.TreeVerb.TheVariants.{Create as CreateVerb, Unlink as UnlinkVerb, List as ListVerb}
+use Rattle.script_spec.specs.declared.TreeVerb.TheVariants as TreeVerb
 use Rattle.script_spec.specs.declared.Verb.{Verb}
-use Rattle.script_spec.specs.declared.Verb.TheVariants.{Write, Ask, Wait, Task as TaskVerbOf, Tree as TreeVerbOf}
+use Rattle.script_spec.specs.declared.Verb.TheVariants as Verb
 use Rattle.script_spec.specs.Words.{number_of, signal_of}
 use Rattle.script_spec.specs.Lines.{ScriptLine, word_in, verb_in}
 use Rattle.world_spec.specs.declared.TaskCall.{TaskCall}
-use Rattle.world_spec.specs.declared.TaskCall.TheVariants.{Fork, Exit, Relabel, DropCap, SelfRules, Relabels, Kill, Take, TraceRead, TraceAttach}
+use Rattle.world_spec.specs.declared.TaskCall.TheVariants as TaskCall
 use Rattle.world_spec.specs.declared.TreeCall.{TreeCall}
-use Rattle.world_spec.specs.declared.TreeCall.TheVariants.{Create, Unlink, ListDir}
+use Rattle.world_spec.specs.declared.TreeCall.TheVariants as TreeCall
 use Rattle.world_spec.specs.declared.Call.{Call}
-use Rattle.world_spec.specs.declared.Call.TheVariants.{Task, Tree}
+use Rattle.world_spec.specs.declared.Call.TheVariants as Call
 use Rattle.replay_spec.specs.Calls.{path_in, pid_in, of_one, of_two, traced, task_call, tree_call, file_call, call_by}
 use Rattle.replay_spec.specs.Plain.{HasId, HasPid, IsPlainCall}
 use Rattle.replay_spec.proofs.KnownLabels.{IsKnownPair, IsKnownCompiled, known_id, compiled_known}
@@ -35,25 +35,25 @@ IsReadBy read a = (word : List ℕ) × (read word ≡ Some a)
 -- What a call that a line makes is made of: labels that are known, tasks that have names, and paths and numbers that are
 -- words.
 abbrev pub IsReadTask : List (List ℕ) → List (List ℕ) → TaskCall → Type 0
-IsReadTask labels names (Fork pid) = HasPid names pid
-IsReadTask labels names Exit = Unit {0}
-IsReadTask labels names (Relabel l) = HasId labels l
-IsReadTask labels names (DropCap cap) = Unit {0}
-IsReadTask labels names (SelfRules rules) = AllByRecursion (IsKnownPair labels) rules
-IsReadTask labels names (Relabels list) = AllByRecursion (HasId labels) list
-IsReadTask labels names (Kill pid sig) = HasPid names pid × IsReadBy signal_of sig
-IsReadTask labels names Take = Unit {0}
-IsReadTask labels names (TraceRead pid) = HasPid names pid
-IsReadTask labels names (TraceAttach pid) = HasPid names pid
+IsReadTask labels names (TaskCall.Fork pid) = HasPid names pid
+IsReadTask labels names TaskCall.Exit = Unit {0}
+IsReadTask labels names (TaskCall.Relabel l) = HasId labels l
+IsReadTask labels names (TaskCall.DropCap cap) = Unit {0}
+IsReadTask labels names (TaskCall.SelfRules rules) = AllByRecursion (IsKnownPair labels) rules
+IsReadTask labels names (TaskCall.Relabels list) = AllByRecursion (HasId labels) list
+IsReadTask labels names (TaskCall.Kill pid sig) = HasPid names pid × IsReadBy signal_of sig
+IsReadTask labels names TaskCall.Take = Unit {0}
+IsReadTask labels names (TaskCall.TraceRead pid) = HasPid names pid
+IsReadTask labels names (TaskCall.TraceAttach pid) = HasPid names pid
 
 abbrev pub IsReadTree : TreeCall → Type 0
-IsReadTree (Create path) = IsReadBy path_in path
-IsReadTree (Unlink path) = IsReadBy path_in path
-IsReadTree (ListDir path at) = IsReadBy path_in path × IsReadBy number_of at
+IsReadTree (TreeCall.Create path) = IsReadBy path_in path
+IsReadTree (TreeCall.Unlink path) = IsReadBy path_in path
+IsReadTree (TreeCall.ListDir path at) = IsReadBy path_in path × IsReadBy number_of at
 
 abbrev pub IsReadCall : List (List ℕ) → List (List ℕ) → Call → Type 0
-IsReadCall labels names (Task call) = IsReadTask labels names call
-IsReadCall labels names (Tree call) = IsReadTree call
+IsReadCall labels names (Call.Task call) = IsReadTask labels names call
+IsReadCall labels names (Call.Tree call) = IsReadTree call
 
 -- what holds of all that no word, one word or two words make, holds of what is made of them
 pub of_none_holds : {C : Type 0} (P : C → Type 0) (made c : C) → P made → ◌≡◌ {A = Option C} (Some made) (Some c) → P c
@@ -80,48 +80,48 @@ known_pid names word pid is = by (has_name names word) refl is
     by false has is = absurd cc
 
 traced_is_read : (labels names : List (List ℕ)) (way : TraceWay) (pid : Pid) → HasPid names pid → IsReadTask labels names (traced way pid)
-traced_is_read labels names Read pid known = known
-traced_is_read labels names Attach pid known = known
+traced_is_read labels names TraceWay.Read pid known = known
+traced_is_read labels names TraceWay.Attach pid known = known
 
 -- a call that a line makes is made of such words
 task_is_read : (labels names : List (List ℕ)) (l : ScriptLine) (verb : TaskVerb) (call : TaskCall) → task_call labels names l verb ≡ Some call
     → IsReadTask labels names call
-task_is_read labels names l ForkVerb call is = of_one_holds (IsReadTask labels names) _ _ call (known_pid names (word_in 1 l)) is
-task_is_read labels names l ExitVerb call is = of_none_holds (IsReadTask labels names) Exit call tt is
-task_is_read labels names l RelabelVerb call is = of_one_holds (IsReadTask labels names) _ _ call (known_id labels (word_in 1 l)) is
-task_is_read labels names l Drop call is = of_one_holds (IsReadTask labels names) _ _ call (λ cap told. tt) is
-task_is_read labels names l KillVerb call is =
+task_is_read labels names l TaskVerb.Fork call is = of_one_holds (IsReadTask labels names) _ _ call (known_pid names (word_in 1 l)) is
+task_is_read labels names l TaskVerb.Exit call is = of_none_holds (IsReadTask labels names) TaskCall.Exit call tt is
+task_is_read labels names l TaskVerb.Relabel call is = of_one_holds (IsReadTask labels names) _ _ call (known_id labels (word_in 1 l)) is
+task_is_read labels names l TaskVerb.Drop call is = of_one_holds (IsReadTask labels names) _ _ call (λ cap told. tt) is
+task_is_read labels names l TaskVerb.Kill call is =
     of_two_holds (IsReadTask labels names) _ _ _ call (λ pid sig named told. (known_pid names (word_in 1 l) pid named, (word_in 2 l, told))) is
-task_is_read labels names l TakeVerb call is = of_none_holds (IsReadTask labels names) Take call tt is
-task_is_read labels names l Trace call is =
+task_is_read labels names l TaskVerb.Take call is = of_none_holds (IsReadTask labels names) TaskCall.Take call tt is
+task_is_read labels names l TaskVerb.Trace call is =
     of_two_holds (IsReadTask labels names) _ _ traced call (λ way pid told named. traced_is_read labels names way pid (known_pid names (word_in 2 l) pid named)) is
 
 tree_is_read : (l : ScriptLine) (verb : TreeVerb) (call : TreeCall) → tree_call l verb ≡ Some call → IsReadTree call
-tree_is_read l CreateVerb call is = of_one_holds IsReadTree _ _ call (λ path told. (word_in 1 l, told)) is
-tree_is_read l UnlinkVerb call is = of_one_holds IsReadTree _ _ call (λ path told. (word_in 1 l, told)) is
-tree_is_read l ListVerb call is = of_two_holds IsReadTree _ _ _ call (λ path at told number. ((word_in 1 l, told), (word_in 2 l, number))) is
+tree_is_read l TreeVerb.Create call is = of_one_holds IsReadTree _ _ call (λ path told. (word_in 1 l, told)) is
+tree_is_read l TreeVerb.Unlink call is = of_one_holds IsReadTree _ _ call (λ path told. (word_in 1 l, told)) is
+tree_is_read l TreeVerb.List call is = of_two_holds IsReadTree _ _ _ call (λ path at told number. ((word_in 1 l, told), (word_in 2 l, number))) is
 
 file_is_read : (labels names : List (List ℕ)) (made : Result Compiled Refusal) (call : TaskCall)
     → ((c : Compiled) → made ≡ Ok c → IsKnownCompiled labels c) → file_call made ≡ Some call → IsReadTask labels names call
-file_is_read labels names (Ok (Rules ops)) call known is = cc
-file_is_read labels names (Ok (RulesOfText rules)) call known is =
-    of_none_holds (IsReadTask labels names) (SelfRules rules) call (known (RulesOfText rules) refl) is
-file_is_read labels names (Ok (LabelsOfText list)) call known is =
-    of_none_holds (IsReadTask labels names) (Relabels list) call (known (LabelsOfText list) refl) is
+file_is_read labels names (Ok (Compiled.Rules ops)) call known is = cc
+file_is_read labels names (Ok (Compiled.SelfRules rules)) call known is =
+    of_none_holds (IsReadTask labels names) (TaskCall.SelfRules rules) call (known (Compiled.SelfRules rules) refl) is
+file_is_read labels names (Ok (Compiled.Relabels list)) call known is =
+    of_none_holds (IsReadTask labels names) (TaskCall.Relabels list) call (known (Compiled.Relabels list) refl) is
 file_is_read labels names (Err fault) call known is = cc
 
 by_is_read : (labels names : List (List ℕ)) (l : ScriptLine) (verb : Option Verb) (call : Call) → call_by labels names l verb ≡ Some call
     → IsReadCall labels names call
 by_is_read labels names l None call is = absurd cc
-by_is_read labels names l (Some Write) call is =
-    of_one_holds (IsReadCall labels names) (file_call (compiled labels (word_in 1 l) l.text.bytes)) (λ c. Task c) call
+by_is_read labels names l (Some Verb.Write) call is =
+    of_one_holds (IsReadCall labels names) (file_call (compiled labels (word_in 1 l) l.text.bytes)) (λ c. Call.Task c) call
     (λ c told. file_is_read labels names (compiled labels (word_in 1 l) l.text.bytes) c (compiled_known labels (word_in 1 l) l.text.bytes) told) is
-by_is_read labels names l (Some Ask) call is = absurd cc
-by_is_read labels names l (Some Wait) call is = absurd cc
-by_is_read labels names l (Some (TaskVerbOf verb)) call is =
-    of_one_holds (IsReadCall labels names) (task_call labels names l verb) (λ c. Task c) call (task_is_read labels names l verb) is
-by_is_read labels names l (Some (TreeVerbOf verb)) call is =
-    of_one_holds (IsReadCall labels names) (tree_call l verb) (λ c. Tree c) call (tree_is_read l verb) is
+by_is_read labels names l (Some Verb.Ask) call is = absurd cc
+by_is_read labels names l (Some Verb.Wait) call is = absurd cc
+by_is_read labels names l (Some (Verb.Task verb)) call is =
+    of_one_holds (IsReadCall labels names) (task_call labels names l verb) (λ c. Call.Task c) call (task_is_read labels names l verb) is
+by_is_read labels names l (Some (Verb.Tree verb)) call is =
+    of_one_holds (IsReadCall labels names) (tree_call l verb) (λ c. Call.Tree c) call (tree_is_read l verb) is
 
 pub plain_is_read : (labels names : List (List ℕ)) (call : Call) → IsPlainCall labels names call → IsReadCall labels names call
 plain_is_read labels names call plain = by_is_read labels names plain.line (verb_in plain.line) call plain.gives

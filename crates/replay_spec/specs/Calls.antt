@@ -6,24 +6,24 @@ use Rattle.smack_base.specs.Paths.{path_of}
 use Rattle.text_spec.specs.Names.{place_of, has_name, id_of}
 use Rattle.file_spec.specs.declared.Refusal.{Refusal}
 use Rattle.file_spec.specs.declared.Compiled.{Compiled}
-use Rattle.file_spec.specs.declared.Compiled.TheVariants.{Rules, SelfRules, Relabels}
+use Rattle.file_spec.specs.declared.Compiled.TheVariants as Compiled
 use Rattle.file_spec.specs.Files.{compiled}
 use Rattle.script_spec.specs.declared.TaskVerb.{TaskVerb}
-use Rattle.script_spec.specs.declared.TaskVerb.TheVariants.{Fork as ForkVerb, Exit as ExitVerb, Relabel as RelabelVerb, Drop, Kill as KillVerb, Take as TakeVerb, Trace}
+use Rattle.script_spec.specs.declared.TaskVerb.TheVariants as TaskVerb
 use Rattle.script_spec.specs.declared.TraceWay.{TraceWay}
-use Rattle.script_spec.specs.declared.TraceWay.TheVariants.{Read, Attach}
+use Rattle.script_spec.specs.declared.TraceWay.TheVariants as TraceWay
 use Rattle.script_spec.specs.declared.TreeVerb.{TreeVerb}
-use Rattle.script_spec.specs.declared.TreeVerb.TheVariants.{Create as CreateVerb, Unlink as UnlinkVerb, List as ListVerb}
+use Rattle.script_spec.specs.declared.TreeVerb.TheVariants as TreeVerb
 use Rattle.script_spec.specs.declared.Verb.{Verb}
-use Rattle.script_spec.specs.declared.Verb.TheVariants.{Write, Ask, Wait, Task as TaskVerbOf, Tree as TreeVerbOf}
+use Rattle.script_spec.specs.declared.Verb.TheVariants as Verb
 use Rattle.script_spec.specs.Words.{cap_of, number_of, signal_of, trace_way_of}
 use Rattle.script_spec.specs.Lines.{ScriptLine, word_in, verb_in}
 use Rattle.world_spec.specs.declared.TaskCall.{TaskCall}
-use Rattle.world_spec.specs.declared.TaskCall.TheVariants.{Fork, Exit, Relabel, DropCap, SelfRules as RulesOfTask, Relabels as LabelsOfTask, Kill, Take, TraceRead, TraceAttach}
+use Rattle.world_spec.specs.declared.TaskCall.TheVariants as TaskCall
 use Rattle.world_spec.specs.declared.TreeCall.{TreeCall}
-use Rattle.world_spec.specs.declared.TreeCall.TheVariants.{Create, Unlink, ListDir}
+use Rattle.world_spec.specs.declared.TreeCall.TheVariants as TreeCall
 use Rattle.world_spec.specs.declared.Call.{Call}
-use Rattle.world_spec.specs.declared.Call.TheVariants.{Task, Tree}
+use Rattle.world_spec.specs.declared.Call.TheVariants as Call
 
 -- the path that a word is, where it is one
 abbrev pub path_in : List ℕ → Option (List (List ℕ))
@@ -43,39 +43,39 @@ of_two (Some a) None make = None
 of_two (Some a) (Some b) make = Some (make a b)
 
 abbrev pub traced : TraceWay → Pid → TaskCall
-traced Read pid = TraceRead pid
-traced Attach pid = TraceAttach pid
+traced TraceWay.Read pid = TaskCall.TraceRead pid
+traced TraceWay.Attach pid = TaskCall.TraceAttach pid
 
 -- the call that a line makes on tasks, by the labels and the names of the tasks, where its words are of their kinds
 abbrev pub task_call : List (List ℕ) → List (List ℕ) → ScriptLine → TaskVerb → Option TaskCall
-task_call labels names l ForkVerb = of_one (pid_in names (word_in 1 l)) (λ pid. Fork pid)
-task_call labels names l ExitVerb = Some Exit
-task_call labels names l RelabelVerb = of_one (id_of labels (word_in 1 l)) (λ label. Relabel label)
-task_call labels names l Drop = of_one (cap_of (word_in 1 l)) (λ cap. DropCap cap)
-task_call labels names l KillVerb = of_two (pid_in names (word_in 1 l)) (signal_of (word_in 2 l)) (λ pid sig. Kill pid sig)
-task_call labels names l TakeVerb = Some Take
-task_call labels names l Trace = of_two (trace_way_of (word_in 1 l)) (pid_in names (word_in 2 l)) traced
+task_call labels names l TaskVerb.Fork = of_one (pid_in names (word_in 1 l)) (λ pid. TaskCall.Fork pid)
+task_call labels names l TaskVerb.Exit = Some TaskCall.Exit
+task_call labels names l TaskVerb.Relabel = of_one (id_of labels (word_in 1 l)) (λ label. TaskCall.Relabel label)
+task_call labels names l TaskVerb.Drop = of_one (cap_of (word_in 1 l)) (λ cap. TaskCall.DropCap cap)
+task_call labels names l TaskVerb.Kill = of_two (pid_in names (word_in 1 l)) (signal_of (word_in 2 l)) (λ pid sig. TaskCall.Kill pid sig)
+task_call labels names l TaskVerb.Take = Some TaskCall.Take
+task_call labels names l TaskVerb.Trace = of_two (trace_way_of (word_in 1 l)) (pid_in names (word_in 2 l)) traced
 
 -- the call that a line makes on the file tree
 abbrev pub tree_call : ScriptLine → TreeVerb → Option TreeCall
-tree_call l CreateVerb = of_one (path_in (word_in 1 l)) (λ path. Create path)
-tree_call l UnlinkVerb = of_one (path_in (word_in 1 l)) (λ path. Unlink path)
-tree_call l ListVerb = of_two (path_in (word_in 1 l)) (number_of (word_in 2 l)) (λ path at. ListDir path at)
+tree_call l TreeVerb.Create = of_one (path_in (word_in 1 l)) (λ path. TreeCall.Create path)
+tree_call l TreeVerb.Unlink = of_one (path_in (word_in 1 l)) (λ path. TreeCall.Unlink path)
+tree_call l TreeVerb.List = of_two (path_in (word_in 1 l)) (number_of (word_in 2 l)) (λ path at. TreeCall.ListDir path at)
 
 -- the call on the writing task that a text is, where its file accepts it
 abbrev pub file_call : Result Compiled Refusal → Option TaskCall
-file_call (Ok (Rules ops)) = None
-file_call (Ok (SelfRules rules)) = Some (RulesOfTask rules)
-file_call (Ok (Relabels list)) = Some (LabelsOfTask list)
+file_call (Ok (Compiled.Rules ops)) = None
+file_call (Ok (Compiled.SelfRules rules)) = Some (TaskCall.SelfRules rules)
+file_call (Ok (Compiled.Relabels list)) = Some (TaskCall.Relabels list)
 file_call (Err fault) = None
 
 abbrev pub call_by : List (List ℕ) → List (List ℕ) → ScriptLine → Option Verb → Option Call
 call_by labels names l None = None
-call_by labels names l (Some Write) = of_one (file_call (compiled labels (word_in 1 l) l.text.bytes)) (λ call. Task call)
-call_by labels names l (Some Ask) = None
-call_by labels names l (Some Wait) = None
-call_by labels names l (Some (TaskVerbOf verb)) = of_one (task_call labels names l verb) (λ call. Task call)
-call_by labels names l (Some (TreeVerbOf verb)) = of_one (tree_call l verb) (λ call. Tree call)
+call_by labels names l (Some Verb.Write) = of_one (file_call (compiled labels (word_in 1 l) l.text.bytes)) (λ call. Call.Task call)
+call_by labels names l (Some Verb.Ask) = None
+call_by labels names l (Some Verb.Wait) = None
+call_by labels names l (Some (Verb.Task verb)) = of_one (task_call labels names l verb) (λ call. Call.Task call)
+call_by labels names l (Some (Verb.Tree verb)) = of_one (tree_call l verb) (λ call. Call.Tree call)
 
 -- the object call that a line makes, where it makes one
 abbrev pub call_of_line : List (List ℕ) → List (List ℕ) → ScriptLine → Option Call

@@ -3,7 +3,7 @@ use Rattle.std.specs.List.{AllByRecursion}
 use Rattle.smack_base.specs.declared.ids.LabelId.{LabelId}
 use Rattle.smack_base.specs.declared.ids.Pid.{Pid}
 use Rattle.smack_base.specs.declared.rule_op.RuleOp.{RuleOp}
-use Rattle.smack_base.specs.declared.rule_op.RuleOp.TheVariants.{Set, Change, Revoke, OnlyClear, OnlyAdd, Ambient, Ptrace, Logging}
+use Rattle.smack_base.specs.declared.rule_op.RuleOp.TheVariants as RuleOp
 use Rattle.text_spec.specs.Names.{place_of, IsLabelTable}
 use Rattle.rules_spec.specs.declared.Batch.{Batch}
 use Rattle.rules_spec.specs.declared.Verdict.{Verdict}
@@ -12,14 +12,14 @@ use Rattle.script_spec.specs.Words.{is_task_name, is_file_name}
 use Rattle.script_spec.specs.Lines.{ScriptLine}
 use Rattle.world_spec.specs.declared.Call.{Call}
 use Rattle.world_spec.specs.declared.Why.{Why}
-use Rattle.world_spec.specs.declared.Why.TheVariants.{Exists, IsRoot, NotDirectory, NotPrivileged, NoSuchTask, NoSuchName, Range, Again, TasksFull, SelfFull, RelabelFull, TreeFull}
+use Rattle.world_spec.specs.declared.Why.TheVariants as Why
 use Rattle.world_spec.specs.declared.Reply.{Reply}
-use Rattle.world_spec.specs.declared.Reply.TheVariants.{Ok as Done, Child, Signal, Names, Denied, Refused as RefusedBy}
+use Rattle.world_spec.specs.declared.Reply.TheVariants as Reply
 use Rattle.world_spec.specs.declared.Entry.{Entry}
 use Rattle.world_spec.specs.Worlds.{most_tasks, most_nodes}
 use Rattle.record_spec.specs.declared.AskedLine.{AskedLine}
 use Rattle.record_spec.specs.declared.AskedWhat.{AskedWhat}
-use Rattle.record_spec.specs.declared.AskedWhat.TheVariants.{Ask, Refused, Wait}
+use Rattle.record_spec.specs.declared.AskedWhat.TheVariants as AskedWhat
 use Rattle.record_spec.specs.declared.RunRecord.{RunRecord}
 use Rattle.log_spec.specs.Audits.{is_word}
 use Rattle.replay_spec.specs.Calls.{call_of_line}
@@ -40,14 +40,14 @@ HasPid names pid = pid.0 < length names
 
 -- a write to rules or settings: its labels are known, and its number is one that its file takes
 abbrev pub IsPlainOp : List (List ℕ) → RuleOp → Type 0
-IsPlainOp labels (Set s o m) = HasId labels s × HasId labels o
-IsPlainOp labels (Change s o allow deny) = HasId labels s × HasId labels o
-IsPlainOp labels (Revoke s) = HasId labels s
-IsPlainOp labels OnlyClear = Unit {0}
-IsPlainOp labels (OnlyAdd l) = HasId labels l
-IsPlainOp labels (Ambient l) = HasId labels l
-IsPlainOp labels (Ptrace n) = n ≤ 2
-IsPlainOp labels (Logging n) = n ≤ 3
+IsPlainOp labels (RuleOp.Set s o m) = HasId labels s × HasId labels o
+IsPlainOp labels (RuleOp.Change s o allow deny) = HasId labels s × HasId labels o
+IsPlainOp labels (RuleOp.Revoke s) = HasId labels s
+IsPlainOp labels RuleOp.OnlyClear = Unit {0}
+IsPlainOp labels (RuleOp.OnlyAdd l) = HasId labels l
+IsPlainOp labels (RuleOp.Ambient l) = HasId labels l
+IsPlainOp labels (RuleOp.Ptrace n) = n ≤ 2
+IsPlainOp labels (RuleOp.Logging n) = n ≤ 3
 
 abbrev pub IsPlainBatch : List (List ℕ) → Batch → Type 0
 IsPlainBatch labels b = AllByRecursion (IsPlainOp labels) b.ops
@@ -73,27 +73,27 @@ pub record IsPlainCall (labels names : List (List ℕ)) (call : Call) : Type 0 w
 
 -- a refusal: where it has a limit, it is the limit of that kind
 abbrev pub IsPlainWhy : Why → Type 0
-IsPlainWhy Exists = Unit {0}
-IsPlainWhy IsRoot = Unit {0}
-IsPlainWhy NotDirectory = Unit {0}
-IsPlainWhy NotPrivileged = Unit {0}
-IsPlainWhy NoSuchTask = Unit {0}
-IsPlainWhy NoSuchName = Unit {0}
-IsPlainWhy Range = Unit {0}
-IsPlainWhy Again = Unit {0}
-IsPlainWhy (TasksFull limit) = limit ≡ most_tasks
-IsPlainWhy (SelfFull limit) = limit ≡ most_self_rules
-IsPlainWhy (RelabelFull limit) = limit ≡ most_relabels
-IsPlainWhy (TreeFull limit) = limit ≡ most_nodes
+IsPlainWhy Why.Exists = Unit {0}
+IsPlainWhy Why.IsRoot = Unit {0}
+IsPlainWhy Why.NotDirectory = Unit {0}
+IsPlainWhy Why.NotPrivileged = Unit {0}
+IsPlainWhy Why.NoSuchTask = Unit {0}
+IsPlainWhy Why.NoSuchName = Unit {0}
+IsPlainWhy Why.Range = Unit {0}
+IsPlainWhy Why.Again = Unit {0}
+IsPlainWhy (Why.TasksFull limit) = limit ≡ most_tasks
+IsPlainWhy (Why.SelfFull limit) = limit ≡ most_self_rules
+IsPlainWhy (Why.RelabelFull limit) = limit ≡ most_relabels
+IsPlainWhy (Why.TreeFull limit) = limit ≡ most_nodes
 
 -- a reply: the names in it are words
 abbrev pub IsPlainReply : Reply → Type 0
-IsPlainReply Done = Unit {0}
-IsPlainReply (Child k) = Unit {0}
-IsPlainReply (Signal sig) = Unit {0}
-IsPlainReply (Names count names) = AllByRecursion (λ name. is_word name ≡ true) names
-IsPlainReply (Denied case) = Unit {0}
-IsPlainReply (RefusedBy why) = IsPlainWhy why
+IsPlainReply Reply.Ok = Unit {0}
+IsPlainReply (Reply.Child k) = Unit {0}
+IsPlainReply (Reply.Signal sig) = Unit {0}
+IsPlainReply (Reply.Names count names) = AllByRecursion (λ name. is_word name ≡ true) names
+IsPlainReply (Reply.Denied case) = Unit {0}
+IsPlainReply (Reply.Refused why) = IsPlainWhy why
 
 pub record IsPlainEntry (labels names : List (List ℕ)) (e : Entry) : Type 0 where
   pub call : IsPlainCall labels names e.call
@@ -102,9 +102,9 @@ pub record IsPlainEntry (labels names : List (List ℕ)) (e : Entry) : Type 0 wh
 
 -- a line that is neither a batch nor an object call: a refused write was to a word that names a file
 abbrev pub IsPlainWhat : List (List ℕ) → List (List ℕ) → AskedWhat → Type 0
-IsPlainWhat labels names (Ask v) = IsPlainAnswer labels v
-IsPlainWhat labels names (Refused file fault) = is_file_name file ≡ true
-IsPlainWhat labels names (Wait pid) = HasPid names pid
+IsPlainWhat labels names (AskedWhat.Ask v) = IsPlainAnswer labels v
+IsPlainWhat labels names (AskedWhat.Refused file fault) = is_file_name file ≡ true
+IsPlainWhat labels names (AskedWhat.Wait pid) = HasPid names pid
 
 abbrev pub IsPlainAsked : List (List ℕ) → List (List ℕ) → AskedLine → Type 0
 IsPlainAsked labels names a = IsPlainWhat labels names a.what

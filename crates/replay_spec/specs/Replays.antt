@@ -3,7 +3,7 @@ use Rattle.smack_base.specs.Modes.{modes_of, is_modes}
 use Rattle.smack_base.specs.declared.modes.Modes.{Modes}
 use Rattle.smack_base.specs.declared.ids.LabelId.{LabelId}
 use Rattle.smack_base.specs.declared.ids.Pid.{Pid}
-use Rattle.smack_base.specs.declared.cap.Cap.TheVariants.{MacAdmin}
+use Rattle.smack_base.specs.declared.cap.Cap.TheVariants as Cap
 use Rattle.smack_base.specs.declared.rule_op.RuleOp.{RuleOp}
 use Rattle.rules_spec.specs.declared.Batch.{Batch}
 use Rattle.rules_spec.specs.Rulings.{ruling}
@@ -11,23 +11,23 @@ use Rattle.rules_spec.specs.Cases.{verdict_of_cases}
 use Rattle.rules_spec.specs.Creds.{is_effective}
 use Rattle.text_spec.specs.Names.{id_of}
 use Rattle.file_spec.specs.declared.Refusal.{Refusal}
-use Rattle.file_spec.specs.declared.Refusal.TheVariants.{NotPrivileged}
+use Rattle.file_spec.specs.declared.Refusal.TheVariants as Refusal
 use Rattle.file_spec.specs.declared.Compiled.{Compiled}
-use Rattle.file_spec.specs.declared.Compiled.TheVariants.{Rules, SelfRules, Relabels}
+use Rattle.file_spec.specs.declared.Compiled.TheVariants as Compiled
 use Rattle.file_spec.specs.Files.{compiled}
 use Rattle.script_spec.specs.declared.Verb.{Verb}
-use Rattle.script_spec.specs.declared.Verb.TheVariants.{Write, Ask as AskVerb, Wait as WaitVerb, Task as TaskVerb, Tree as TreeVerb}
+use Rattle.script_spec.specs.declared.Verb.TheVariants as Verb
 use Rattle.script_spec.specs.Lines.{ScriptLine, word_in, verb_in, table_of}
 use Rattle.script_spec.specs.Tasks.{task_names}
-use Rattle.world_spec.specs.declared.TaskCall.TheVariants.{SelfRules as RulesOfTask, Relabels as LabelsOfTask}
+use Rattle.world_spec.specs.declared.TaskCall.TheVariants as TaskCall
 use Rattle.world_spec.specs.declared.Call.{Call}
-use Rattle.world_spec.specs.declared.Call.TheVariants.{Task, Tree}
+use Rattle.world_spec.specs.declared.Call.TheVariants as Call
 use Rattle.world_spec.specs.declared.Entry.{Entry}
 use Rattle.world_spec.specs.Worlds.{World, world_first, live_task, creds_of}
 use Rattle.world_spec.specs.Steps.{step}
 use Rattle.record_spec.specs.declared.AskedLine.{AskedLine}
 use Rattle.record_spec.specs.declared.AskedWhat.{AskedWhat}
-use Rattle.record_spec.specs.declared.AskedWhat.TheVariants.{Ask, Refused, Wait}
+use Rattle.record_spec.specs.declared.AskedWhat.TheVariants as AskedWhat
 use Rattle.record_spec.specs.declared.RunRecord.{RunRecord}
 use Rattle.replay_spec.specs.Calls.{pid_in, of_one, task_call, tree_call}
 
@@ -92,26 +92,26 @@ stepped_by run l call = let stepped = step run.world (ruling run.journal) (numbe
 -- A text of rules that is accepted is published where its writer has CAP_MAC_ADMIN in the newest version, and one of
 -- the writing task is an object call.
 abbrev pub written : Run → ScriptLine → Result Compiled Refusal → Run
-written run l (Ok (Rules ops)) =
-    if is_effective (creds_of run.world (number_of_task run l)) MacAdmin (ruling run.journal) then published run l ops
-    else noted run l (Refused (word_in 1 l) NotPrivileged)
-written run l (Ok (SelfRules rules)) = stepped_by run l (Task (RulesOfTask rules))
-written run l (Ok (Relabels list)) = stepped_by run l (Task (LabelsOfTask list))
-written run l (Err fault) = noted run l (Refused (word_in 1 l) fault)
+written run l (Ok (Compiled.Rules ops)) =
+    if is_effective (creds_of run.world (number_of_task run l)) Cap.MacAdmin (ruling run.journal) then published run l ops
+    else noted run l (AskedWhat.Refused (word_in 1 l) Refusal.NotPrivileged)
+written run l (Ok (Compiled.SelfRules rules)) = stepped_by run l (Call.Task (TaskCall.SelfRules rules))
+written run l (Ok (Compiled.Relabels list)) = stepped_by run l (Call.Task (TaskCall.Relabels list))
+written run l (Err fault) = noted run l (AskedWhat.Refused (word_in 1 l) fault)
 
 abbrev pub modes_in : List ℕ → Option Modes
 modes_in word = if is_modes word then Some (modes_of word) else None
 
 -- a question is answered by the ordered cases in the newest version
 abbrev pub answered : Run → ScriptLine → Option LabelId → Option LabelId → Option Modes → Run
-answered run l (Some s) (Some o) (Some m) = noted run l (Ask (verdict_of_cases (ruling run.journal) s o m))
+answered run l (Some s) (Some o) (Some m) = noted run l (AskedWhat.Ask (verdict_of_cases (ruling run.journal) s o m))
 answered run l (Some s) (Some o) None = run
 answered run l (Some s) None m = run
 answered run l None o m = run
 
 abbrev pub awaited : Run → ScriptLine → Option Pid → Run
 awaited run l None = run
-awaited run l (Some pid) = noted run l (Wait pid)
+awaited run l (Some pid) = noted run l (AskedWhat.Wait pid)
 
 abbrev pub entered : Run → ScriptLine → Option Call → Run
 entered run l None = run
@@ -121,12 +121,12 @@ entered run l (Some call) = stepped_by run l call
 -- leaves it as it was; no script has one.
 abbrev pub after_verb : List (List ℕ) → List (List ℕ) → Run → ScriptLine → Option Verb → Run
 after_verb labels names run l None = run
-after_verb labels names run l (Some Write) = written run l (compiled labels (word_in 1 l) l.text.bytes)
-after_verb labels names run l (Some AskVerb) =
+after_verb labels names run l (Some Verb.Write) = written run l (compiled labels (word_in 1 l) l.text.bytes)
+after_verb labels names run l (Some Verb.Ask) =
     answered run l (id_of labels (word_in 1 l)) (id_of labels (word_in 2 l)) (modes_in (word_in 3 l))
-after_verb labels names run l (Some WaitVerb) = awaited run l (pid_in names (word_in 1 l))
-after_verb labels names run l (Some (TaskVerb verb)) = entered run l (of_one (task_call labels names l verb) (λ call. Task call))
-after_verb labels names run l (Some (TreeVerb verb)) = entered run l (of_one (tree_call l verb) (λ call. Tree call))
+after_verb labels names run l (Some Verb.Wait) = awaited run l (pid_in names (word_in 1 l))
+after_verb labels names run l (Some (Verb.Task verb)) = entered run l (of_one (task_call labels names l verb) (λ call. Call.Task call))
+after_verb labels names run l (Some (Verb.Tree verb)) = entered run l (of_one (tree_call l verb) (λ call. Call.Tree call))
 
 abbrev pub after_line : List (List ℕ) → List (List ℕ) → Run → ScriptLine → Run
 after_line labels names run l = after_verb labels names run l (verb_in l)

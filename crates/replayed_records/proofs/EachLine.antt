@@ -7,33 +7,33 @@ use Rattle.std.proofs.lemmas.Grind.{flat_map-append, fold-append}
 use Rattle.smack_base.specs.declared.modes.Modes.{Modes}
 use Rattle.smack_base.specs.declared.ids.LabelId.{LabelId}
 use Rattle.smack_base.specs.declared.ids.Pid.{Pid}
-use Rattle.smack_base.specs.declared.cap.Cap.TheVariants.{MacAdmin}
+use Rattle.smack_base.specs.declared.cap.Cap.TheVariants as Cap
 use Rattle.smack_base.specs.Modes.{is_modes}
 use Rattle.rules_spec.specs.Rulings.{ruling}
 use Rattle.rules_spec.specs.Creds.{is_effective}
 use Rattle.text_spec.specs.Names.{predefined, has_name, id_of, with_name, with_names}
 use Rattle.file_spec.specs.declared.Refusal.{Refusal}
-use Rattle.file_spec.specs.declared.Refusal.TheVariants.{NotPrivileged}
+use Rattle.file_spec.specs.declared.Refusal.TheVariants as Refusal
 use Rattle.file_spec.specs.declared.Compiled.{Compiled}
-use Rattle.file_spec.specs.declared.Compiled.TheVariants.{Rules, SelfRules, Relabels}
+use Rattle.file_spec.specs.declared.Compiled.TheVariants as Compiled
 use Rattle.file_spec.specs.Files.{compiled}
 use Rattle.script_spec.specs.declared.Verb.{Verb}
-use Rattle.script_spec.specs.declared.Verb.TheVariants.{Write, Ask, Wait, Task, Tree}
+use Rattle.script_spec.specs.declared.Verb.TheVariants as Verb
 use Rattle.script_spec.specs.Words.{kinds_of}
 use Rattle.script_spec.specs.Lines.{ScriptLine, word_in, label_words, text_labels, labels_by, labels_of, table_of}
 use Rattle.script_spec.specs.Grammar.{parse}
 use Rattle.script_spec.specs.Tasks.{TaskChange, Forks, Exits, Awaits, Keeps, forked_name, change_by, change_of, task_names}
 use Rattle.smack_base.specs.declared.rule_op.RuleOp.{RuleOp}
-use Rattle.world_spec.specs.declared.TaskCall.TheVariants.{SelfRules as RulesOfTask, Relabels as LabelsOfTask}
+use Rattle.world_spec.specs.declared.TaskCall.TheVariants as TaskCall
 use Rattle.rules_spec.specs.declared.Batch.{Batch}
 use Rattle.world_spec.specs.declared.Entry.{Entry}
 use Rattle.world_spec.specs.Steps.{step}
 use Rattle.record_spec.specs.declared.AskedWhat.{AskedWhat}
 use Rattle.world_spec.specs.declared.Call.{Call}
-use Rattle.world_spec.specs.declared.Call.TheVariants.{Task as OnTask, Tree as OnTree}
+use Rattle.world_spec.specs.declared.Call.TheVariants as Call
 use Rattle.world_spec.specs.Worlds.{creds_of}
 use Rattle.record_spec.specs.declared.AskedLine.{AskedLine}
-use Rattle.record_spec.specs.declared.AskedWhat.TheVariants.{Refused}
+use Rattle.record_spec.specs.declared.AskedWhat.TheVariants as AskedWhat
 use Rattle.replay_spec.specs.Calls.{pid_in, of_one, task_call, tree_call}
 use Rattle.replay_spec.specs.Replays.{Run, run_first, number_of_task, is_before, with_asked, noted, published, stepped_by, written, answered, awaited, entered, modes_in, after_verb, after_line, run_of}
 use Rattle.replay_spec.specs.Plain.{IsNameTable}
@@ -103,14 +103,14 @@ module _ (p : ℕ → ℕ → Bool) where
       )
 
   written_more : (run : Run) (l : ScriptLine) (made : Result Compiled Refusal) → IsOneMore run l (written run l made)
-  written_more run l (Ok (Rules ops)) = by (is_effective (creds_of run.world (number_of_task run l)) MacAdmin (ruling run.journal))
+  written_more run l (Ok (Compiled.Rules ops)) = by (is_effective (creds_of run.world (number_of_task run l)) Cap.MacAdmin (ruling run.journal))
     where
-      by : (privileged : Bool) → IsOneMore run l (if privileged then published run l ops else noted run l (Refused (word_in 1 l) NotPrivileged))
+      by : (privileged : Bool) → IsOneMore run l (if privileged then published run l ops else noted run l (AskedWhat.Refused (word_in 1 l) Refusal.NotPrivileged))
       by true = published_more run l ops
-      by false = noted_more run l (Refused (word_in 1 l) NotPrivileged)
-  written_more run l (Ok (SelfRules rules)) = stepped_more run l (OnTask (RulesOfTask rules))
-  written_more run l (Ok (Relabels list)) = stepped_more run l (OnTask (LabelsOfTask list))
-  written_more run l (Err fault) = noted_more run l (Refused (word_in 1 l) fault)
+      by false = noted_more run l (AskedWhat.Refused (word_in 1 l) Refusal.NotPrivileged)
+  written_more run l (Ok (Compiled.SelfRules rules)) = stepped_more run l (Call.Task (TaskCall.SelfRules rules))
+  written_more run l (Ok (Compiled.Relabels list)) = stepped_more run l (Call.Task (TaskCall.Relabels list))
+  written_more run l (Err fault) = noted_more run l (AskedWhat.Refused (word_in 1 l) fault)
 
   answered_more : (run : Run) (l : ScriptLine) (s o : Option LabelId) (m : Option Modes) → is_some s ≡ true → is_some o ≡ true → is_some m ≡ true
       → IsOneMore run l (answered run l s o m)
@@ -130,13 +130,13 @@ module _ (p : ℕ → ℕ → Bool) where
   -- a call whose words are found leaves one thing in the record
   pub verb_more : (labels names : List (List ℕ)) (run : Run) (l : ScriptLine) (verb : Verb) → IsMade labels names l verb
       → IsOneMore run l (after_verb labels names run l (Some verb))
-  verb_more labels names run l Write made = written_more run l (compiled labels (word_in 1 l) l.text.bytes)
-  verb_more labels names run l Ask made =
+  verb_more labels names run l Verb.Write made = written_more run l (compiled labels (word_in 1 l) l.text.bytes)
+  verb_more labels names run l Verb.Ask made =
       answered_more run l (id_of labels (word_in 1 l)) (id_of labels (word_in 2 l)) (modes_in (word_in 3 l))
       (found_label labels (word_in 1 l) made.0) (found_label labels (word_in 2 l) made.1) (found_modes (word_in 3 l) made.2)
-  verb_more labels names run l Wait made = awaited_more run l (pid_in names (word_in 1 l)) made
-  verb_more labels names run l (Task verb) made = entered_more run l _ (still_some (task_call labels names l verb) (λ call. OnTask call) made)
-  verb_more labels names run l (Tree verb) made = entered_more run l _ (still_some (tree_call l verb) (λ call. OnTree call) made)
+  verb_more labels names run l Verb.Wait made = awaited_more run l (pid_in names (word_in 1 l)) made
+  verb_more labels names run l (Verb.Task verb) made = entered_more run l _ (still_some (task_call labels names l verb) (λ call. Call.Task call) made)
+  verb_more labels names run l (Verb.Tree verb) made = entered_more run l _ (still_some (tree_call l verb) (λ call. Call.Tree call) made)
 
 -- the labels of a call are in the table of its script
 call_labels : (above : List ScriptLine) (l : ScriptLine) (more : List ScriptLine) → HasNames (table_of (above ++ l ∷ more)) (labels_of l)

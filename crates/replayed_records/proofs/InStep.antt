@@ -6,28 +6,28 @@ use Rattle.std.proofs.Math.Seq.{get_or-append_seam}
 use Rattle.smack_base.specs.declared.modes.Modes.{Modes}
 use Rattle.smack_base.specs.declared.ids.LabelId.{LabelId}
 use Rattle.smack_base.specs.declared.ids.Pid.{Pid}
-use Rattle.smack_base.specs.declared.cap.Cap.TheVariants.{MacAdmin}
+use Rattle.smack_base.specs.declared.cap.Cap.TheVariants as Cap
 use Rattle.rules_spec.specs.Rulings.{ruling}
 use Rattle.rules_spec.specs.Creds.{Creds, is_effective}
 use Rattle.text_spec.specs.Names.{place_of, id_of}
 use Rattle.file_spec.specs.declared.Refusal.{Refusal}
-use Rattle.file_spec.specs.declared.Refusal.TheVariants.{NotPrivileged}
+use Rattle.file_spec.specs.declared.Refusal.TheVariants as Refusal
 use Rattle.file_spec.specs.declared.Compiled.{Compiled}
-use Rattle.file_spec.specs.declared.Compiled.TheVariants.{Rules, SelfRules, Relabels}
+use Rattle.file_spec.specs.declared.Compiled.TheVariants as Compiled
 use Rattle.file_spec.specs.Files.{compiled}
 use Rattle.script_spec.specs.declared.Verb.{Verb}
-use Rattle.script_spec.specs.declared.Verb.TheVariants.{Write, Ask, Wait, Task, Tree}
-use Rattle.script_spec.specs.declared.TaskVerb.TheVariants.{Fork, Exit, Relabel, Drop, Kill, Take, Trace}
+use Rattle.script_spec.specs.declared.Verb.TheVariants as Verb
+use Rattle.script_spec.specs.declared.TaskVerb.TheVariants as TaskVerb
 use Rattle.script_spec.specs.declared.TraceWay.{TraceWay}
-use Rattle.script_spec.specs.declared.TraceWay.TheVariants.{Read, Attach}
+use Rattle.script_spec.specs.declared.TraceWay.TheVariants as TraceWay
 use Rattle.script_spec.specs.Lines.{ScriptLine, word_in, verb_in}
 use Rattle.script_spec.specs.Tasks.{forked_name, is_exit, change_by, change_of, has_exit, task_names}
 use Rattle.world_spec.specs.declared.TaskCall.{TaskCall}
-use Rattle.world_spec.specs.declared.TaskCall.TheVariants.{Fork as ForkOf, Exit as ExitOf, SelfRules as RulesOfTask, Relabels as LabelsOfTask, Take as TakeOf}
+use Rattle.world_spec.specs.declared.TaskCall.TheVariants as TaskCall
 use Rattle.world_spec.specs.declared.Call.{Call}
-use Rattle.world_spec.specs.declared.Call.TheVariants.{Task as OnTask, Tree as OnTree}
+use Rattle.world_spec.specs.declared.Call.TheVariants as Call
 use Rattle.world_spec.specs.Worlds.{TaskRow, task_begun, was_made, is_live, creds_of, with_child, without_life, most_tasks}
-use Rattle.record_spec.specs.declared.AskedWhat.TheVariants.{Refused}
+use Rattle.record_spec.specs.declared.AskedWhat.TheVariants as AskedWhat
 use Rattle.replay_spec.specs.Calls.{pid_in, of_one, traced, task_call, tree_call}
 use Rattle.replay_spec.specs.Plain.{IsNameTable}
 use Rattle.replay_spec.specs.Replays.{Run, or_none_yet, number_of_task, noted, published, stepped_by, written, answered, awaited, entered, modes_in, after_verb, after_line}
@@ -38,17 +38,17 @@ use Rattle.replayed_records.proofs.Numbers.{AreNumbered, AreKept, changed_many, 
 
 -- a verb whose calls neither make a task nor end one
 abbrev pub IsQuietVerb : Verb → Type 0
-IsQuietVerb Write = Unit {0}
-IsQuietVerb Ask = Unit {0}
-IsQuietVerb Wait = Unit {0}
-IsQuietVerb (Task Fork) = ⊥
-IsQuietVerb (Task Exit) = ⊥
-IsQuietVerb (Task Relabel) = Unit {0}
-IsQuietVerb (Task Drop) = Unit {0}
-IsQuietVerb (Task Kill) = Unit {0}
-IsQuietVerb (Task Take) = Unit {0}
-IsQuietVerb (Task Trace) = Unit {0}
-IsQuietVerb (Tree verb) = Unit {0}
+IsQuietVerb Verb.Write = Unit {0}
+IsQuietVerb Verb.Ask = Unit {0}
+IsQuietVerb Verb.Wait = Unit {0}
+IsQuietVerb (Verb.Task TaskVerb.Fork) = ⊥
+IsQuietVerb (Verb.Task TaskVerb.Exit) = ⊥
+IsQuietVerb (Verb.Task TaskVerb.Relabel) = Unit {0}
+IsQuietVerb (Verb.Task TaskVerb.Drop) = Unit {0}
+IsQuietVerb (Verb.Task TaskVerb.Kill) = Unit {0}
+IsQuietVerb (Verb.Task TaskVerb.Take) = Unit {0}
+IsQuietVerb (Verb.Task TaskVerb.Trace) = Unit {0}
+IsQuietVerb (Verb.Tree verb) = Unit {0}
 
 -- the tasks of a run are in step with the calls so far: as many as were forked, each with its pid as its number, live
 -- until it exits
@@ -106,13 +106,13 @@ module _ (labels names : List (List ℕ)) (exited : ℕ → Bool) (run : Run) (l
   step_kept call quiet = quiet_kept exited run.world (ruling run.journal) (number_of_task run l) call quiet are
 
   written_kept : (made : Result Compiled Refusal) → AreKept exited run.world.tasks (written run l made).world.tasks
-  written_kept (Ok (Rules ops)) = by (is_effective (creds_of run.world (number_of_task run l)) MacAdmin (ruling run.journal))
+  written_kept (Ok (Compiled.Rules ops)) = by (is_effective (creds_of run.world (number_of_task run l)) Cap.MacAdmin (ruling run.journal))
     where
-      by : (privileged : Bool) → AreKept exited run.world.tasks (if privileged then published run l ops else noted run l (Refused (word_in 1 l) NotPrivileged)).world.tasks
+      by : (privileged : Bool) → AreKept exited run.world.tasks (if privileged then published run l ops else noted run l (AskedWhat.Refused (word_in 1 l) Refusal.NotPrivileged)).world.tasks
       by true = same
       by false = same
-  written_kept (Ok (SelfRules rules)) = step_kept (OnTask (RulesOfTask rules)) tt
-  written_kept (Ok (Relabels list)) = step_kept (OnTask (LabelsOfTask list)) tt
+  written_kept (Ok (Compiled.SelfRules rules)) = step_kept (Call.Task (TaskCall.SelfRules rules)) tt
+  written_kept (Ok (Compiled.Relabels list)) = step_kept (Call.Task (TaskCall.Relabels list)) tt
   written_kept (Err fault) = same
 
   answered_kept : (s o : Option LabelId) (m : Option Modes) → AreKept exited run.world.tasks (answered run l s o m).world.tasks
@@ -130,41 +130,41 @@ module _ (labels names : List (List ℕ)) (exited : ℕ → Bool) (run : Run) (l
   entered_kept (Some c) quiet = step_kept c (quiet c refl)
 
   abbrev QuietTask : TaskCall → Type 0
-  QuietTask call = IsQuiet (OnTask call)
+  QuietTask call = IsQuiet (Call.Task call)
 
   traced_quiet : (way : TraceWay) (pid : Pid) → QuietTask (traced way pid)
-  traced_quiet Read pid = tt
-  traced_quiet Attach pid = tt
+  traced_quiet TraceWay.Read pid = tt
+  traced_quiet TraceWay.Attach pid = tt
 
   task_kept : (call : Option TaskCall) → ((c : TaskCall) → call ≡ Some c → QuietTask c)
-      → AreKept exited run.world.tasks (entered run l (of_one call (λ c. OnTask c))).world.tasks
-  task_kept call quiet = entered_kept (of_one call (λ c. OnTask c)) (λ c is. of_one_holds IsQuiet call (λ t. OnTask t) c quiet is)
+      → AreKept exited run.world.tasks (entered run l (of_one call (λ c. Call.Task c))).world.tasks
+  task_kept call quiet = entered_kept (of_one call (λ c. Call.Task c)) (λ c is. of_one_holds IsQuiet call (λ t. Call.Task t) c quiet is)
 
   pub verb_kept : (verb : Verb) → IsQuietVerb verb → AreKept exited run.world.tasks (after_verb labels names run l (Some verb)).world.tasks
-  verb_kept Write quiet = written_kept (compiled labels (word_in 1 l) l.text.bytes)
-  verb_kept Ask quiet = answered_kept (id_of labels (word_in 1 l)) (id_of labels (word_in 2 l)) (modes_in (word_in 3 l))
-  verb_kept Wait quiet = awaited_kept (pid_in names (word_in 1 l))
-  verb_kept (Task Fork) quiet = absurd quiet
-  verb_kept (Task Exit) quiet = absurd quiet
-  verb_kept (Task Relabel) quiet = task_kept (task_call labels names l Relabel) (λ c is. of_one_holds QuietTask _ _ c (λ x told. tt) is)
-  verb_kept (Task Drop) quiet = task_kept (task_call labels names l Drop) (λ c is. of_one_holds QuietTask _ _ c (λ x told. tt) is)
-  verb_kept (Task Kill) quiet = task_kept (task_call labels names l Kill) (λ c is. of_two_holds QuietTask _ _ _ c (λ x y told told'. tt) is)
-  verb_kept (Task Take) quiet = step_kept (OnTask TakeOf) tt
-  verb_kept (Task Trace) quiet = task_kept (task_call labels names l Trace) (λ c is. of_two_holds QuietTask _ _ traced c (λ x y told told'. traced_quiet x y) is)
-  verb_kept (Tree verb) quiet = entered_kept (of_one (tree_call l verb) (λ c. OnTree c)) (λ c is. of_one_holds IsQuiet (tree_call l verb) (λ t. OnTree t) c (λ t told. tt) is)
+  verb_kept Verb.Write quiet = written_kept (compiled labels (word_in 1 l) l.text.bytes)
+  verb_kept Verb.Ask quiet = answered_kept (id_of labels (word_in 1 l)) (id_of labels (word_in 2 l)) (modes_in (word_in 3 l))
+  verb_kept Verb.Wait quiet = awaited_kept (pid_in names (word_in 1 l))
+  verb_kept (Verb.Task TaskVerb.Fork) quiet = absurd quiet
+  verb_kept (Verb.Task TaskVerb.Exit) quiet = absurd quiet
+  verb_kept (Verb.Task TaskVerb.Relabel) quiet = task_kept (task_call labels names l TaskVerb.Relabel) (λ c is. of_one_holds QuietTask _ _ c (λ x told. tt) is)
+  verb_kept (Verb.Task TaskVerb.Drop) quiet = task_kept (task_call labels names l TaskVerb.Drop) (λ c is. of_one_holds QuietTask _ _ c (λ x told. tt) is)
+  verb_kept (Verb.Task TaskVerb.Kill) quiet = task_kept (task_call labels names l TaskVerb.Kill) (λ c is. of_two_holds QuietTask _ _ _ c (λ x y told told'. tt) is)
+  verb_kept (Verb.Task TaskVerb.Take) quiet = step_kept (Call.Task TaskCall.Take) tt
+  verb_kept (Verb.Task TaskVerb.Trace) quiet = task_kept (task_call labels names l TaskVerb.Trace) (λ c is. of_two_holds QuietTask _ _ traced c (λ x y told told'. traced_quiet x y) is)
+  verb_kept (Verb.Tree verb) quiet = entered_kept (of_one (tree_call l verb) (λ c. Call.Tree c)) (λ c is. of_one_holds IsQuiet (tree_call l verb) (λ t. Call.Tree t) c (λ t told. tt) is)
 
 quiet_change : (l : ScriptLine) (verb : Verb) → IsQuietVerb verb → (is_exit (change_by (Some verb) l) ≡ false) × (forked_name (change_by (Some verb) l) ≡ [])
-quiet_change l Write quiet = (refl, refl)
-quiet_change l Ask quiet = (refl, refl)
-quiet_change l Wait quiet = (refl, refl)
-quiet_change l (Task Fork) quiet = absurd quiet
-quiet_change l (Task Exit) quiet = absurd quiet
-quiet_change l (Task Relabel) quiet = (refl, refl)
-quiet_change l (Task Drop) quiet = (refl, refl)
-quiet_change l (Task Kill) quiet = (refl, refl)
-quiet_change l (Task Take) quiet = (refl, refl)
-quiet_change l (Task Trace) quiet = (refl, refl)
-quiet_change l (Tree verb) quiet = (refl, refl)
+quiet_change l Verb.Write quiet = (refl, refl)
+quiet_change l Verb.Ask quiet = (refl, refl)
+quiet_change l Verb.Wait quiet = (refl, refl)
+quiet_change l (Verb.Task TaskVerb.Fork) quiet = absurd quiet
+quiet_change l (Verb.Task TaskVerb.Exit) quiet = absurd quiet
+quiet_change l (Verb.Task TaskVerb.Relabel) quiet = (refl, refl)
+quiet_change l (Verb.Task TaskVerb.Drop) quiet = (refl, refl)
+quiet_change l (Verb.Task TaskVerb.Kill) quiet = (refl, refl)
+quiet_change l (Verb.Task TaskVerb.Take) quiet = (refl, refl)
+quiet_change l (Verb.Task TaskVerb.Trace) quiet = (refl, refl)
+quiet_change l (Verb.Tree verb) quiet = (refl, refl)
 
 -- tasks that are kept are in step with one more quiet call
 quiet_in_step : (above : List ScriptLine) (l : ScriptLine) (before after : List TaskRow) → l.task < length (task_names above) → IsInStep above before
@@ -244,13 +244,13 @@ module _ (labels names : List (List ℕ)) (above : List ScriptLine) (l : ScriptL
 
   forks : (pid : Option Pid) (name : List ℕ) → pid ≡ Some (record { 0 = length (task_names above) }) → is_exit (change_of l) ≡ false
       → forked_name (change_of l) ≡ name ∷ [] → length (task_names above) < most_tasks
-      → IsInStep (above ++ l ∷ []) (entered run l (of_one (of_one pid (λ p. ForkOf p)) (λ c. OnTask c))).world.tasks
+      → IsInStep (above ++ l ∷ []) (entered run l (of_one (of_one pid (λ p. TaskCall.Fork p)) (λ c. Call.Task c))).world.tasks
   forks pid name at none one few =
-      subst (λ p. IsInStep (above ++ l ∷ []) (entered run l (of_one (of_one p (λ q. ForkOf q)) (λ c. OnTask c))).world.tasks) (sym at)
+      subst (λ p. IsInStep (above ++ l ∷ []) (entered run l (of_one (of_one p (λ q. TaskCall.Fork q)) (λ c. Call.Task c))).world.tasks) (sym at)
       (fork_in_step above l run.world.tasks _ name (creds_of run.world number) good.there step none one
       (fork_done run.world (ruling run.journal) number (record { 0 = length (task_names above) }) live new (room few)))
 
-  exits : is_exit (change_of l) ≡ true → forked_name (change_of l) ≡ [] → IsInStep (above ++ l ∷ []) (stepped_by run l (OnTask ExitOf)).world.tasks
+  exits : is_exit (change_of l) ≡ true → forked_name (change_of l) ≡ [] → IsInStep (above ++ l ∷ []) (stepped_by run l (Call.Task TaskCall.Exit)).world.tasks
   exits ends nothing =
       exit_in_step above l run.world.tasks _ good.there step ends nothing
       (exit_done run.world (ruling run.journal) number live ∙ ap (without_life run.world.tasks) is)
@@ -266,10 +266,10 @@ module _ (labels names : List (List ℕ)) (above : List ScriptLine) (l : ScriptL
 
   pub verb_in_step : (verb : Verb) → verb_in l ≡ Some verb → IsNameTable names → (rest : List (List ℕ))
       → names ≡ (task_names above ++ forked_name (change_of l)) ++ rest → After verb
-  verb_in_step Write is_verb table rest whole = quietly Write is_verb tt
-  verb_in_step Ask is_verb table rest whole = quietly Ask is_verb tt
-  verb_in_step Wait is_verb table rest whole = quietly Wait is_verb tt
-  verb_in_step (Task Fork) is_verb table rest whole =
+  verb_in_step Verb.Write is_verb table rest whole = quietly Verb.Write is_verb tt
+  verb_in_step Verb.Ask is_verb table rest whole = quietly Verb.Ask is_verb tt
+  verb_in_step Verb.Wait is_verb table rest whole = quietly Verb.Wait is_verb tt
+  verb_in_step (Verb.Task TaskVerb.Fork) is_verb table rest whole =
       let one : forked_name (change_of l) ≡ word_in 1 l ∷ [] = ap (λ v. forked_name (change_by v l)) is_verb in
       let few : length (task_names above) < most_tasks =
       omega (
@@ -282,14 +282,14 @@ module _ (labels names : List (List ℕ)) (above : List ScriptLine) (l : ScriptL
       (next_pid names (task_names above) (word_in 1 l) rest
       (whole ∙ ap (λ ns. (task_names above ++ ns) ++ rest) one ∙ append_assoc (task_names above) (word_in 1 l ∷ []) rest) table)
       (ap (λ v. is_exit (change_by v l)) is_verb) one few
-  verb_in_step (Task Exit) is_verb table rest whole =
+  verb_in_step (Verb.Task TaskVerb.Exit) is_verb table rest whole =
       exits (ap (λ v. is_exit (change_by v l)) is_verb) (ap (λ v. forked_name (change_by v l)) is_verb)
-  verb_in_step (Task Relabel) is_verb table rest whole = quietly (Task Relabel) is_verb tt
-  verb_in_step (Task Drop) is_verb table rest whole = quietly (Task Drop) is_verb tt
-  verb_in_step (Task Kill) is_verb table rest whole = quietly (Task Kill) is_verb tt
-  verb_in_step (Task Take) is_verb table rest whole = quietly (Task Take) is_verb tt
-  verb_in_step (Task Trace) is_verb table rest whole = quietly (Task Trace) is_verb tt
-  verb_in_step (Tree verb) is_verb table rest whole = quietly (Tree verb) is_verb tt
+  verb_in_step (Verb.Task TaskVerb.Relabel) is_verb table rest whole = quietly (Verb.Task TaskVerb.Relabel) is_verb tt
+  verb_in_step (Verb.Task TaskVerb.Drop) is_verb table rest whole = quietly (Verb.Task TaskVerb.Drop) is_verb tt
+  verb_in_step (Verb.Task TaskVerb.Kill) is_verb table rest whole = quietly (Verb.Task TaskVerb.Kill) is_verb tt
+  verb_in_step (Verb.Task TaskVerb.Take) is_verb table rest whole = quietly (Verb.Task TaskVerb.Take) is_verb tt
+  verb_in_step (Verb.Task TaskVerb.Trace) is_verb table rest whole = quietly (Verb.Task TaskVerb.Trace) is_verb tt
+  verb_in_step (Verb.Tree verb) is_verb table rest whole = quietly (Verb.Tree verb) is_verb tt
 
 -- the run after a good call of a script is in step with the calls up to it
 pub line_in_step : (above : List ScriptLine) (l : ScriptLine) (more : List ScriptLine) (labels : List (List ℕ)) (run : Run) → IsGoodLine above l

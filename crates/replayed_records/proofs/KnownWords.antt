@@ -9,11 +9,11 @@ use Rattle.smack_base.specs.Paths.{path_of}
 use Rattle.text_spec.specs.Texts.{Placed}
 use Rattle.text_spec.specs.Names.{place_of, has_name, id_of}
 use Rattle.script_spec.specs.declared.Verb.{Verb}
-use Rattle.script_spec.specs.declared.Verb.TheVariants.{Write, Ask, Wait, Task, Tree}
-use Rattle.script_spec.specs.declared.TaskVerb.TheVariants.{Fork, Exit, Relabel, Drop, Kill, Take, Trace}
-use Rattle.script_spec.specs.declared.TreeVerb.TheVariants.{Create, Unlink, List as ListNames}
+use Rattle.script_spec.specs.declared.Verb.TheVariants as Verb
+use Rattle.script_spec.specs.declared.TaskVerb.TheVariants as TaskVerb
+use Rattle.script_spec.specs.declared.TreeVerb.TheVariants as TreeVerb
 use Rattle.script_spec.specs.declared.WordKind.{WordKind}
-use Rattle.script_spec.specs.declared.WordKind.TheVariants.{Label, Modes, TaskName, Signal, Way, Capability, Path, Number}
+use Rattle.script_spec.specs.declared.WordKind.TheVariants as WordKind
 use Rattle.script_spec.specs.Words.{kinds_of, cap_of, number_of, signal_of, trace_way_of, word_at}
 use Rattle.script_spec.specs.Lines.{ScriptLine, word_in, label_words}
 use Rattle.script_spec.specs.Tasks.{TaskChange, Forks, Exits, Awaits, Keeps, forked_name, is_fork, change_by, change_of, parents_in, task_names, tasks_of, pid_of, latest_child, is_pid, is_latest_child}
@@ -86,21 +86,21 @@ child_has_name above task name is =
 
 -- what the words of a call need, so that it leaves something in a record
 abbrev pub IsMade : List (List ℕ) → List (List ℕ) → ScriptLine → Verb → Type 0
-IsMade labels names l Write = Unit {0}
-IsMade labels names l Ask =
+IsMade labels names l Verb.Write = Unit {0}
+IsMade labels names l Verb.Ask =
     (has_name labels (word_in 1 l) ≡ true) × (has_name labels (word_in 2 l) ≡ true) × (is_modes (word_in 3 l) ≡ true)
-IsMade labels names l Wait = is_some (pid_in names (word_in 1 l)) ≡ true
-IsMade labels names l (Task verb) = is_some (task_call labels names l verb) ≡ true
-IsMade labels names l (Tree verb) = is_some (tree_call l verb) ≡ true
+IsMade labels names l Verb.Wait = is_some (pid_in names (word_in 1 l)) ≡ true
+IsMade labels names l (Verb.Task verb) = is_some (task_call labels names l verb) ≡ true
+IsMade labels names l (Verb.Tree verb) = is_some (tree_call l verb) ≡ true
 
 -- the words that stand for labels are known
 label_1 : (labels : List (List ℕ)) (l : ScriptLine) (first : Placed) (ds : List WordKind) (behind : List Placed) → l.words ≡ first ∷ behind
-    → AreOfKinds (first ∷ []) (Label ∷ ds) behind → HasNames labels (label_words (Label ∷ ds) behind) → has_name labels (word_in 1 l) ≡ true
+    → AreOfKinds (first ∷ []) (WordKind.Label ∷ ds) behind → HasNames labels (label_words (WordKind.Label ∷ ds) behind) → has_name labels (word_in 1 l) ≡ true
 label_1 labels l first ds [] words kinds known = absurd kinds
 label_1 labels l first ds (w ∷ ws) words kinds known = rw words known.0
 
 label_2 : (labels : List (List ℕ)) (l : ScriptLine) (first : Placed) (ds : List WordKind) (behind : List Placed) → l.words ≡ first ∷ behind
-    → AreOfKinds (first ∷ []) (Label ∷ Label ∷ ds) behind → HasNames labels (label_words (Label ∷ Label ∷ ds) behind)
+    → AreOfKinds (first ∷ []) (WordKind.Label ∷ WordKind.Label ∷ ds) behind → HasNames labels (label_words (WordKind.Label ∷ WordKind.Label ∷ ds) behind)
     → has_name labels (word_in 2 l) ≡ true
 label_2 labels l first ds [] words kinds known = absurd kinds
 label_2 labels l first ds (w ∷ []) words kinds known = absurd kinds.1
@@ -109,36 +109,36 @@ label_2 labels l first ds (w ∷ v ∷ ws) words kinds known = rw words known.1.
 -- Each word that a verb takes is found, where the labels of the call and the tasks above it are known, and the task that
 -- it forks.
 module _ (labels names : List (List ℕ)) (above : List ScriptLine) (l : ScriptLine) (first : Placed) (behind : List Placed) (words : l.words ≡ first ∷ behind) (tasks : (name : List ℕ) → has_name (task_names above) name ≡ true → has_name names name ≡ true) where
-  found_path_1 : (ds : List WordKind) → AreOfKinds (first ∷ []) (Path ∷ ds) behind → is_some (path_in (word_in 1 l)) ≡ true
-  found_path_1 ds kinds = found_path (path_of (word_in 1 l)) (kind_1 l first Path ds behind words kinds)
+  found_path_1 : (ds : List WordKind) → AreOfKinds (first ∷ []) (WordKind.Path ∷ ds) behind → is_some (path_in (word_in 1 l)) ≡ true
+  found_path_1 ds kinds = found_path (path_of (word_in 1 l)) (kind_1 l first WordKind.Path ds behind words kinds)
 
   pub call_is_made : (verb : Verb) → AreOfKinds (first ∷ []) (kinds_of verb) behind → HasNames labels (label_words (kinds_of verb) behind)
       → is_name_good (tasks_of above) verb behind ≡ true → is_wait_good (tasks_of above) l.task verb behind ≡ true
       → HasNames names (forked_name (change_by (Some verb) l)) → IsMade labels names l verb
-  call_is_made Write kinds known name wait forked = tt
-  call_is_made Ask kinds known name wait forked = (
-    label_1 labels l first (Label ∷ Modes ∷ []) behind words kinds known,
-    label_2 labels l first (Modes ∷ []) behind words kinds known,
-    (kind_3 l first Label Label Modes [] behind words kinds).1,
+  call_is_made Verb.Write kinds known name wait forked = tt
+  call_is_made Verb.Ask kinds known name wait forked = (
+    label_1 labels l first (WordKind.Label ∷ WordKind.Modes ∷ []) behind words kinds known,
+    label_2 labels l first (WordKind.Modes ∷ []) behind words kinds known,
+    (kind_3 l first WordKind.Label WordKind.Label WordKind.Modes [] behind words kinds).1,
   )
-  call_is_made Wait kinds known name wait forked =
+  call_is_made Verb.Wait kinds known name wait forked =
       found_task names (word_in 1 l) (rw words (tasks (word_at 0 behind).bytes (child_has_name above l.task (word_at 0 behind).bytes wait)))
-  call_is_made (Task Fork) kinds known name wait forked =
+  call_is_made (Verb.Task TaskVerb.Fork) kinds known name wait forked =
       made_of_one (pid_in names (word_in 1 l)) _ (found_task names (word_in 1 l) forked.0)
-  call_is_made (Task Exit) kinds known name wait forked = refl
-  call_is_made (Task Relabel) kinds known name wait forked =
+  call_is_made (Verb.Task TaskVerb.Exit) kinds known name wait forked = refl
+  call_is_made (Verb.Task TaskVerb.Relabel) kinds known name wait forked =
       made_of_one (id_of labels (word_in 1 l)) _ (found_label labels (word_in 1 l) (label_1 labels l first [] behind words kinds known))
-  call_is_made (Task Drop) kinds known name wait forked = made_of_one (cap_of (word_in 1 l)) _ (kind_1 l first Capability [] behind words kinds)
-  call_is_made (Task Kill) kinds known name wait forked =
+  call_is_made (Verb.Task TaskVerb.Drop) kinds known name wait forked = made_of_one (cap_of (word_in 1 l)) _ (kind_1 l first WordKind.Capability [] behind words kinds)
+  call_is_made (Verb.Task TaskVerb.Kill) kinds known name wait forked =
       made_of_two (pid_in names (word_in 1 l)) (signal_of (word_in 2 l)) _ (found_task names (word_in 1 l) (rw words (tasks (word_at 0 behind).bytes name)))
-      (kind_2 l first TaskName Signal [] behind words kinds).1
-  call_is_made (Task Take) kinds known name wait forked = refl
-  call_is_made (Task Trace) kinds known name wait forked =
+      (kind_2 l first WordKind.TaskName WordKind.Signal [] behind words kinds).1
+  call_is_made (Verb.Task TaskVerb.Take) kinds known name wait forked = refl
+  call_is_made (Verb.Task TaskVerb.Trace) kinds known name wait forked =
       made_of_two (trace_way_of (word_in 1 l)) (pid_in names (word_in 2 l)) traced
-      (and_parts _ (is_some (trace_way_of (word_in 1 l))) (kind_1 l first Way (TaskName ∷ []) behind words kinds)).1
+      (and_parts _ (is_some (trace_way_of (word_in 1 l))) (kind_1 l first WordKind.Way (WordKind.TaskName ∷ []) behind words kinds)).1
       (found_task names (word_in 2 l) (rw words (tasks (word_at 1 behind).bytes name)))
-  call_is_made (Tree Create) kinds known name wait forked = made_of_one (path_in (word_in 1 l)) _ (found_path_1 [] kinds)
-  call_is_made (Tree Unlink) kinds known name wait forked = made_of_one (path_in (word_in 1 l)) _ (found_path_1 [] kinds)
-  call_is_made (Tree ListNames) kinds known name wait forked =
-      made_of_two (path_in (word_in 1 l)) (number_of (word_in 2 l)) _ (found_path_1 (Number ∷ []) kinds)
-      (kind_2 l first Path Number [] behind words kinds).1
+  call_is_made (Verb.Tree TreeVerb.Create) kinds known name wait forked = made_of_one (path_in (word_in 1 l)) _ (found_path_1 [] kinds)
+  call_is_made (Verb.Tree TreeVerb.Unlink) kinds known name wait forked = made_of_one (path_in (word_in 1 l)) _ (found_path_1 [] kinds)
+  call_is_made (Verb.Tree TreeVerb.List) kinds known name wait forked =
+      made_of_two (path_in (word_in 1 l)) (number_of (word_in 2 l)) _ (found_path_1 (WordKind.Number ∷ []) kinds)
+      (kind_2 l first WordKind.Path WordKind.Number [] behind words kinds).1

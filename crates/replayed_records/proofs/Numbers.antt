@@ -4,10 +4,10 @@ use Rattle.std.proofs.lemmas.Bool.{ne_eqb, eq-eqb, lt-ltb}
 use Rattle.smack_base.specs.declared.ids.Pid.{Pid}
 use Rattle.rules_spec.specs.declared.Verdict.{Verdict}
 use Rattle.rules_spec.specs.Rulings.{Ruling}
-use Rattle.world_spec.specs.declared.TaskCall.TheVariants.{Fork, Exit, Relabel, DropCap, SelfRules, Relabels, Kill, Take, TraceRead, TraceAttach}
-use Rattle.world_spec.specs.declared.TreeCall.TheVariants.{Create, Unlink, ListDir}
+use Rattle.world_spec.specs.declared.TaskCall.TheVariants as TaskCall
+use Rattle.world_spec.specs.declared.TreeCall.TheVariants as TreeCall
 use Rattle.world_spec.specs.declared.Call.{Call}
-use Rattle.world_spec.specs.declared.Call.TheVariants.{Task, Tree}
+use Rattle.world_spec.specs.declared.Call.TheVariants as Call
 use Rattle.world_spec.specs.declared.Reply.{Reply}
 use Rattle.world_spec.specs.Worlds.{World, TaskRow, was_made, live_task, is_live, creds_of, changed_at, with_child, without_life, most_tasks}
 use Rattle.world_spec.specs.Questions.{asks}
@@ -106,17 +106,17 @@ row_is_live exited k (r ∷ rs) (suc n) within stays are =
 
 -- a call that neither makes a task nor ends one
 abbrev pub IsQuiet : Call → Type 0
-IsQuiet (Task (Fork pid)) = ⊥
-IsQuiet (Task Exit) = ⊥
-IsQuiet (Task (Relabel l)) = Unit {0}
-IsQuiet (Task (DropCap cap)) = Unit {0}
-IsQuiet (Task (SelfRules rules)) = Unit {0}
-IsQuiet (Task (Relabels list)) = Unit {0}
-IsQuiet (Task (Kill pid sig)) = Unit {0}
-IsQuiet (Task Take) = Unit {0}
-IsQuiet (Task (TraceRead pid)) = Unit {0}
-IsQuiet (Task (TraceAttach pid)) = Unit {0}
-IsQuiet (Tree call) = Unit {0}
+IsQuiet (Call.Task (TaskCall.Fork pid)) = ⊥
+IsQuiet (Call.Task TaskCall.Exit) = ⊥
+IsQuiet (Call.Task (TaskCall.Relabel l)) = Unit {0}
+IsQuiet (Call.Task (TaskCall.DropCap cap)) = Unit {0}
+IsQuiet (Call.Task (TaskCall.SelfRules rules)) = Unit {0}
+IsQuiet (Call.Task (TaskCall.Relabels list)) = Unit {0}
+IsQuiet (Call.Task (TaskCall.Kill pid sig)) = Unit {0}
+IsQuiet (Call.Task TaskCall.Take) = Unit {0}
+IsQuiet (Call.Task (TaskCall.TraceRead pid)) = Unit {0}
+IsQuiet (Call.Task (TaskCall.TraceAttach pid)) = Unit {0}
+IsQuiet (Call.Tree call) = Unit {0}
 
 pub changed_many : (tasks : List TaskRow) (n : ℕ) (change : TaskRow → TaskRow) → length (changed_at tasks n change) ≡ length tasks
 changed_many [] n change = refl
@@ -141,19 +141,19 @@ signalled_kept exited tasks (Some n) sig are = changed_kept exited tasks n _ (λ
 
 effect_kept : (exited : ℕ → Bool) (w : World) (version : Ruling) (task : ℕ) (call : Call) → IsQuiet call → AreNumbered exited 0 w.tasks
     → AreKept exited w.tasks (effect w version task call).world.tasks
-effect_kept exited w version task (Task (Fork pid)) quiet are = absurd quiet
-effect_kept exited w version task (Task Exit) quiet are = absurd quiet
-effect_kept exited w version task (Task (Relabel l)) quiet are = changed_kept exited w.tasks task _ (λ r. (refl, refl)) are
-effect_kept exited w version task (Task (DropCap cap)) quiet are = changed_kept exited w.tasks task _ (λ r. (refl, refl)) are
-effect_kept exited w version task (Task (SelfRules rules)) quiet are = changed_kept exited w.tasks task _ (λ r. (refl, refl)) are
-effect_kept exited w version task (Task (Relabels list)) quiet are = changed_kept exited w.tasks task _ (λ r. (refl, refl)) are
-effect_kept exited w version task (Task (Kill pid sig)) quiet are = signalled_kept exited w.tasks (live_task w.tasks pid) sig are
-effect_kept exited w version task (Task Take) quiet are = changed_kept exited w.tasks task _ (λ r. (refl, refl)) are
-effect_kept exited w version task (Task (TraceRead pid)) quiet are = same_kept exited w.tasks are
-effect_kept exited w version task (Task (TraceAttach pid)) quiet are = same_kept exited w.tasks are
-effect_kept exited w version task (Tree (Create path)) quiet are = same_kept exited w.tasks are
-effect_kept exited w version task (Tree (Unlink path)) quiet are = same_kept exited w.tasks are
-effect_kept exited w version task (Tree (ListDir path at)) quiet are = same_kept exited w.tasks are
+effect_kept exited w version task (Call.Task (TaskCall.Fork pid)) quiet are = absurd quiet
+effect_kept exited w version task (Call.Task TaskCall.Exit) quiet are = absurd quiet
+effect_kept exited w version task (Call.Task (TaskCall.Relabel l)) quiet are = changed_kept exited w.tasks task _ (λ r. (refl, refl)) are
+effect_kept exited w version task (Call.Task (TaskCall.DropCap cap)) quiet are = changed_kept exited w.tasks task _ (λ r. (refl, refl)) are
+effect_kept exited w version task (Call.Task (TaskCall.SelfRules rules)) quiet are = changed_kept exited w.tasks task _ (λ r. (refl, refl)) are
+effect_kept exited w version task (Call.Task (TaskCall.Relabels list)) quiet are = changed_kept exited w.tasks task _ (λ r. (refl, refl)) are
+effect_kept exited w version task (Call.Task (TaskCall.Kill pid sig)) quiet are = signalled_kept exited w.tasks (live_task w.tasks pid) sig are
+effect_kept exited w version task (Call.Task TaskCall.Take) quiet are = changed_kept exited w.tasks task _ (λ r. (refl, refl)) are
+effect_kept exited w version task (Call.Task (TaskCall.TraceRead pid)) quiet are = same_kept exited w.tasks are
+effect_kept exited w version task (Call.Task (TaskCall.TraceAttach pid)) quiet are = same_kept exited w.tasks are
+effect_kept exited w version task (Call.Tree (TreeCall.Create path)) quiet are = same_kept exited w.tasks are
+effect_kept exited w version task (Call.Tree (TreeCall.Unlink path)) quiet are = same_kept exited w.tasks are
+effect_kept exited w version task (Call.Tree (TreeCall.ListDir path at)) quiet are = same_kept exited w.tasks are
 
 stepped_kept : (exited : ℕ → Bool) (w : World) (e : Effect) (checks : List Verdict) (stop : Option Reply) → AreNumbered exited 0 w.tasks
     → AreKept exited w.tasks e.world.tasks → AreKept exited w.tasks (stepped w e checks stop).world.tasks
@@ -169,9 +169,9 @@ quiet_kept exited w version task call quiet are =
 
 -- an exit of a live task takes its life, and a fork with a new pid makes a task, where there is room
 pub exit_done : (w : World) (version : Ruling) (task : ℕ) → is_live w.tasks task ≡ true
-    → (step w version task (Task Exit)).world.tasks ≡ without_life w.tasks task
+    → (step w version task (Call.Task TaskCall.Exit)).world.tasks ≡ without_life w.tasks task
 exit_done w version task live = rw live refl
 
 pub fork_done : (w : World) (version : Ruling) (task : ℕ) (pid : Pid) → is_live w.tasks task ≡ true → was_made w.tasks pid ≡ false
-    → nat_le most_tasks (length w.tasks) ≡ false → (step w version task (Task (Fork pid))).world.tasks ≡ with_child w.tasks pid (creds_of w task)
+    → nat_le most_tasks (length w.tasks) ≡ false → (step w version task (Call.Task (TaskCall.Fork pid))).world.tasks ≡ with_child w.tasks pid (creds_of w task)
 fork_done w version task pid live new room = rw (live, new, room) refl

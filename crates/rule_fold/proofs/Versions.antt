@@ -5,16 +5,16 @@ use Rattle.std.proofs.lemmas.List.Folds.{list_any-append}
 use Rattle.std.proofs.lemmas.List.Sums.{fold-append}
 use Rattle.smack_base.specs.declared.ids.LabelId.{LabelId}
 use Rattle.smack_base.specs.declared.rule_op.RuleOp.{RuleOp}
-use Rattle.smack_base.specs.declared.rule_op.RuleOp.TheVariants.{OnlyClear, OnlyAdd}
+use Rattle.smack_base.specs.declared.rule_op.RuleOp.TheVariants as RuleOp
 use Rattle.rules_spec.specs.declared.Batch.{Batch}
 use Rattle.rules_spec.specs.Versions.{floor, same_label, writes, only, after_write, after_only, after_ambient, after_ptrace, after_logging}
 use Rattle.rules_spec.specs.Rulings.{ruling, is_empty, has_label}
 use Rattle.rule_fold.specs.Absorbing.{after_empty, after_holds, after_batch}
 
 empty_step : (list : List LabelId) (op : RuleOp) → after_empty (is_empty list) op ≡ is_empty (after_only list op)
-empty_step list OnlyClear = refl
-empty_step [] (OnlyAdd l) = refl
-empty_step (x ∷ xs) (OnlyAdd l) = refl
+empty_step list RuleOp.OnlyClear = refl
+empty_step [] (RuleOp.OnlyAdd l) = refl
+empty_step (x ∷ xs) (RuleOp.OnlyAdd l) = refl
 empty_step list _ = refl
 
 empty_along : (list : List LabelId) (ops : List RuleOp) → fold after_empty (is_empty list) ops ≡ is_empty (fold after_only list ops)
@@ -26,8 +26,8 @@ or_false true = refl
 or_false false = refl
 
 holds_step : (l : LabelId) (list : List LabelId) (op : RuleOp) → after_holds l (has_label list l) op ≡ has_label (after_only list op) l
-holds_step l list OnlyClear = refl
-holds_step l list (OnlyAdd l') =
+holds_step l list RuleOp.OnlyClear = refl
+holds_step l list (RuleOp.OnlyAdd l') =
     ap (λ b. has_label list l || b) (or_false (same_label l' l)) ∙ sym (list_any-append (λ x. same_label x l) list (l' ∷ []))
 holds_step l list _ = refl
 

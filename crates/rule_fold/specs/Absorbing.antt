@@ -1,32 +1,32 @@
 use Rattle.std.specs.Prelude.{◌+◌, Bool, true, false, ◌||◌, fold}
 use Rattle.smack_base.specs.declared.ids.LabelId.{LabelId}
 use Rattle.smack_base.specs.declared.rule_op.RuleOp.{RuleOp}
-use Rattle.smack_base.specs.declared.rule_op.RuleOp.TheVariants.{Set, Change, Revoke, OnlyClear, OnlyAdd, Ambient, Ptrace, Logging}
+use Rattle.smack_base.specs.declared.rule_op.RuleOp.TheVariants as RuleOp
 use Rattle.rules_spec.specs.declared.Batch.{Batch}
 use Rattle.rules_spec.specs.Versions.{same_label, after_write, after_ambient, after_ptrace, after_logging}
 use Rattle.rules_spec.specs.Rulings.{Ruling}
 
 -- whether the onlycap list is empty after one more write
 abbrev pub after_empty : Bool → RuleOp → Bool
-after_empty before OnlyClear = true
-after_empty before (OnlyAdd l) = false
-after_empty before (Set s o m) = before
-after_empty before (Change s o allow deny) = before
-after_empty before (Revoke s) = before
-after_empty before (Ambient label) = before
-after_empty before (Ptrace n) = before
-after_empty before (Logging n) = before
+after_empty before RuleOp.OnlyClear = true
+after_empty before (RuleOp.OnlyAdd l) = false
+after_empty before (RuleOp.Set s o m) = before
+after_empty before (RuleOp.Change s o allow deny) = before
+after_empty before (RuleOp.Revoke s) = before
+after_empty before (RuleOp.Ambient label) = before
+after_empty before (RuleOp.Ptrace n) = before
+after_empty before (RuleOp.Logging n) = before
 
 -- whether the onlycap list has a label after one more write
 abbrev pub after_holds : LabelId → Bool → RuleOp → Bool
-after_holds l before OnlyClear = false
-after_holds l before (OnlyAdd l') = before || same_label l' l
-after_holds l before (Set s o m) = before
-after_holds l before (Change s o allow deny) = before
-after_holds l before (Revoke s) = before
-after_holds l before (Ambient label) = before
-after_holds l before (Ptrace n) = before
-after_holds l before (Logging n) = before
+after_holds l before RuleOp.OnlyClear = false
+after_holds l before (RuleOp.OnlyAdd l') = before || same_label l' l
+after_holds l before (RuleOp.Set s o m) = before
+after_holds l before (RuleOp.Change s o allow deny) = before
+after_holds l before (RuleOp.Revoke s) = before
+after_holds l before (RuleOp.Ambient label) = before
+after_holds l before (RuleOp.Ptrace n) = before
+after_holds l before (RuleOp.Logging n) = before
 
 -- what is said after one more batch, from what was said before it: each answer by the writes of the batch, in order
 abbrev pub after_batch : Ruling → Batch → Ruling

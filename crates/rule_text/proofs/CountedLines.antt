@@ -4,11 +4,11 @@ use Rattle.std.proofs.lemmas.Bool.{cases_Bool, ne_eqb, eqb-true}
 use Rattle.std.proofs.lemmas.Bool.Decides.{nat_tests}
 use Rattle.text_spec.specs.declared.BadLine.{BadLine}
 use Rattle.text_spec.specs.declared.RuleForm.{RuleForm}
-use Rattle.text_spec.specs.declared.RuleForm.TheVariants.{Long, Short, Change}
+use Rattle.text_spec.specs.declared.RuleForm.TheVariants as RuleForm
 use Rattle.text_spec.specs.Texts.{Placed, TextLine, words_from, in_first_word, begins_word}
 use Rattle.text_spec.specs.RuleTexts.{RuleWords, line_answer, subject_answer, answers_from, before_more, unless_bare, blank_words, long_line, change_line, short_line, subject_line}
 use Rattle.rule_text.specs.declared.counted.Skipped.{Skipped}
-use Rattle.rule_text.specs.declared.counted.Skipped.TheVariants.{Bare, Empty}
+use Rattle.rule_text.specs.declared.counted.Skipped.TheVariants as Skipped
 use Rattle.rule_text.specs.Slices.{line_part}
 use Rattle.rule_text.specs.Counted.{NumberedLine, is_skipped, numbered, skipped_by}
 
@@ -67,30 +67,30 @@ word_some [] a e = cc
 word_some (w ∷ ws) a e = refl
 
 rules_counted : (form : RuleForm) → IsCounted (skipped_by form) (line_answer form)
-rules_counted Long = record { skips = λ n l e. bare_none (blank_words l) (long_line n (blank_words l)) e; same = λ n l. refl }
-rules_counted Change = record { skips = λ n l e. bare_none (blank_words l) (change_line n (blank_words l)) e; same = λ n l. refl }
-rules_counted Short = record { skips = λ n l e. simp e refl; same = λ n l. refl }
+rules_counted RuleForm.Long = record { skips = λ n l e. bare_none (blank_words l) (long_line n (blank_words l)) e; same = λ n l. refl }
+rules_counted RuleForm.Change = record { skips = λ n l e. bare_none (blank_words l) (change_line n (blank_words l)) e; same = λ n l. refl }
+rules_counted RuleForm.Short = record { skips = λ n l e. simp e refl; same = λ n l. refl }
 
-subjects_counted : IsCounted Bare subject_answer
+subjects_counted : IsCounted Skipped.Bare subject_answer
 subjects_counted = record { skips = λ n l e. bare_none (blank_words l) (subject_line n (blank_words l)) e; same = λ n l. refl }
 
 -- the answer of a line that is not skipped
-pub long_some : (form : RuleForm) → form ≡ Long → (n : ℕ) (l : TextLine) → is_skipped (skipped_by form) (line_part l) ≡ false
+pub long_some : (form : RuleForm) → form ≡ RuleForm.Long → (n : ℕ) (l : TextLine) → is_skipped (skipped_by form) (line_part l) ≡ false
     → Some (long_line n (blank_words l)) ≡ line_answer form n l
 long_some form is n l e = rw is (word_some (blank_words l) (long_line n (blank_words l)) (rw is at e))
 
-pub change_some : (form : RuleForm) → form ≡ Change → (n : ℕ) (l : TextLine) → is_skipped (skipped_by form) (line_part l) ≡ false
+pub change_some : (form : RuleForm) → form ≡ RuleForm.Change → (n : ℕ) (l : TextLine) → is_skipped (skipped_by form) (line_part l) ≡ false
     → Some (change_line n (blank_words l)) ≡ line_answer form n l
 change_some form is n l e = rw is (word_some (blank_words l) (change_line n (blank_words l)) (rw is at e))
 
-pub short_some : (form : RuleForm) → form ≡ Short → (n : ℕ) (l : TextLine) → is_skipped (skipped_by form) (line_part l) ≡ false
+pub short_some : (form : RuleForm) → form ≡ RuleForm.Short → (n : ℕ) (l : TextLine) → is_skipped (skipped_by form) (line_part l) ≡ false
     → Some (short_line n l) ≡ line_answer form n l
 short_some form is n l e = rw is (some (rw is at e))
   where
-    some : is_skipped Empty (line_part l) ≡ false → Some (short_line n l) ≡ line_answer Short n l
+    some : is_skipped Skipped.Empty (line_part l) ≡ false → Some (short_line n l) ≡ line_answer RuleForm.Short n l
     some e = simp e refl
 
-pub subject_some : (n : ℕ) (l : TextLine) → is_skipped Bare (line_part l) ≡ false → Some (subject_line n (blank_words l)) ≡ subject_answer n l
+pub subject_some : (n : ℕ) (l : TextLine) → is_skipped Skipped.Bare (line_part l) ≡ false → Some (subject_line n (blank_words l)) ≡ subject_answer n l
 subject_some n l e = word_some (blank_words l) (subject_line n (blank_words l)) e
 
 first_answer : {A : Type 0} (skipped : Skipped) (answer : ℕ → TextLine → Option (Result A BadLine)) → IsCounted skipped answer
@@ -116,9 +116,9 @@ pub no_rule : (form : RuleForm) (n : ℕ) (ls : List TextLine) → numbered (ski
 no_rule form = no_answer (skipped_by form) (line_answer form) (rules_counted form)
 
 pub first_subject : (n : ℕ) (ls : List TextLine) (c : NumberedLine) (rest : List TextLine) (a : Result Placed BadLine)
-    → numbered Bare n ls ≡ c ∷ numbered Bare (c.number + 1) rest → Some a ≡ subject_answer c.number (plain c.line)
+    → numbered Skipped.Bare n ls ≡ c ∷ numbered Skipped.Bare (c.number + 1) rest → Some a ≡ subject_answer c.number (plain c.line)
     → answers_from subject_answer n ls ≡ before_more (Some a) (answers_from subject_answer (c.number + 1) rest)
-first_subject = first_answer Bare subject_answer subjects_counted
+first_subject = first_answer Skipped.Bare subject_answer subjects_counted
 
-pub no_subject : (n : ℕ) (ls : List TextLine) → numbered Bare n ls ≡ [] → answers_from subject_answer n ls ≡ []
-no_subject = no_answer Bare subject_answer subjects_counted
+pub no_subject : (n : ℕ) (ls : List TextLine) → numbered Skipped.Bare n ls ≡ [] → answers_from subject_answer n ls ≡ []
+no_subject = no_answer Skipped.Bare subject_answer subjects_counted

@@ -9,10 +9,10 @@ use Rattle.smack_base.specs.Labels.{label_fault}
 use Rattle.smack_base.specs.Modes.{bad_letter}
 use Rattle.smack_base.specs.declared.label.LabelFault.{LabelFault}
 use Rattle.text_spec.specs.declared.LineFault.{LineFault}
-use Rattle.text_spec.specs.declared.LineFault.TheVariants.{Subject, Object, Allow}
+use Rattle.text_spec.specs.declared.LineFault.TheVariants as LineFault
 use Rattle.text_spec.specs.declared.BadLine.{BadLine}
 use Rattle.text_spec.specs.declared.RuleForm.{RuleForm}
-use Rattle.text_spec.specs.declared.RuleForm.TheVariants.{Long, Short, Change}
+use Rattle.text_spec.specs.declared.RuleForm.TheVariants as RuleForm
 use Rattle.text_spec.specs.Texts.{Placed, TextLine}
 use Rattle.text_spec.specs.RuleTexts.{RuleWords, unless_fault, first_fault, unless_bare, line_answer, long_line, change_line, short_line, short_fields, short_label_fault, is_short_letter, short_bad_letter, blank_words, field, deny_fault}
 use Rattle.rule_text.specs.declared.rule_line.RuleLine.{RuleLine}
@@ -26,7 +26,7 @@ pub record AreGood (r : RuleWords) : Type 0 where
 
 -- a line without a fault
 no_fault : (s o : Option LabelFault) (a : Option ℕ) (more : List (Option LineFault)) (n : ℕ) (r r' : RuleWords)
-    → unless_fault n (first_fault (option_map (λ f. Subject f) s ∷ option_map (λ f. Object f) o ∷ option_map (λ at. Allow at) a ∷ more)) r ≡ Ok r'
+    → unless_fault n (first_fault (option_map (λ f. LineFault.Subject f) s ∷ option_map (λ f. LineFault.Object f) o ∷ option_map (λ at. LineFault.Allow at) a ∷ more)) r ≡ Ok r'
     → (s ≡ None) × (o ≡ None) × (a ≡ None)
 no_fault (Some f) o a more n r r' e = cc
 no_fault None (Some f) a more n r r' e = cc
@@ -113,9 +113,9 @@ not_bare [] answer r e = cc
 not_bare (w ∷ ws) answer r e = cc
 
 pub answer_good : (form : RuleForm) (n : ℕ) (l : TextLine) (r : RuleWords) → line_answer form n l ≡ Some (Ok r) → AreGood r
-answer_good Long n l r e = long_good n (blank_words l) r (not_bare (blank_words l) _ r e)
-answer_good Change n l r e = change_good n (blank_words l) r (not_bare (blank_words l) _ r e)
-answer_good Short n l r e =
+answer_good RuleForm.Long n l r e = long_good n (blank_words l) r (not_bare (blank_words l) _ r e)
+answer_good RuleForm.Change n l r e = change_good n (blank_words l) r (not_bare (blank_words l) _ r e)
+answer_good RuleForm.Short n l r e =
     elim (cases_Bool (nat_eq (length l.bytes) 0)) [
       | inl none ↦ cc (simp none at e)
       | inr some ↦ let is : Some (short_line n l) ≡ Some (Ok r) = simp some at e in short_good n l r cc

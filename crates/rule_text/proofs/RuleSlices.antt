@@ -4,7 +4,7 @@ use Rattle.std.proofs.lemmas.List.{length-drop, length-take-le}
 use Rattle.std.proofs.lemmas.List.Elements.{All-nil, All-cons, All-weaker}
 use Rattle.std.specs.Bool.{⊤}
 use Rattle.text_spec.specs.declared.RuleForm.{RuleForm}
-use Rattle.text_spec.specs.declared.RuleForm.TheVariants.{Long, Short, Change}
+use Rattle.text_spec.specs.declared.RuleForm.TheVariants as RuleForm
 use Rattle.text_spec.specs.declared.LineFault.{LineFault}
 use Rattle.text_spec.specs.declared.BadLine.{BadLine}
 use Rattle.text_spec.specs.Texts.{Placed, TextLine, lines_from, is_blank}
@@ -83,9 +83,9 @@ short_in n l =
 
 -- the answer of a line of any form
 answer_in : (form : RuleForm) (n : ℕ) (l : TextLine) → AnswerIn n l (line_answer form n l)
-answer_in Long n l = unless_bare_in n l (blank_words l) (long_line n (blank_words l)) (long_in n l (blank_words l) (words_are is_blank l.at l.bytes))
-answer_in Change n l = unless_bare_in n l (blank_words l) (change_line n (blank_words l)) (change_in n l (blank_words l) (words_are is_blank l.at l.bytes))
-answer_in Short n l =
+answer_in RuleForm.Long n l = unless_bare_in n l (blank_words l) (long_line n (blank_words l)) (long_in n l (blank_words l) (words_are is_blank l.at l.bytes))
+answer_in RuleForm.Change n l = unless_bare_in n l (blank_words l) (change_line n (blank_words l)) (change_in n l (blank_words l) (words_are is_blank l.at l.bytes))
+answer_in RuleForm.Short n l =
     elim (cases_Bool (nat_eq (length l.bytes) 0)) [
       | inl e ↦ simp e tt
       | inr e ↦ simp e (short_in n l)

@@ -1,23 +1,23 @@
 use Rattle.std.specs.Prelude.{ℕ, ◌+◌, Bool, ◌==◌, if◌then◌else◌, List, [], ◌∷◌, length}
 use Rattle.text_spec.specs.Texts.{Placed, TextLine, words_from, is_blank}
 use Rattle.text_spec.specs.declared.RuleForm.{RuleForm}
-use Rattle.text_spec.specs.declared.RuleForm.TheVariants.{Long, Short, Change}
+use Rattle.text_spec.specs.declared.RuleForm.TheVariants as RuleForm
 use Rattle.rule_text.specs.Slices.{line_part}
 use Rattle.rule_text.specs.Parts.{placed}
 use Rattle.rule_text.specs.declared.counted.Skipped.{Skipped}
-use Rattle.rule_text.specs.declared.counted.Skipped.TheVariants.{Bare, Empty}
+use Rattle.rule_text.specs.declared.counted.Skipped.TheVariants as Skipped
 use Rattle.rule_text.specs.declared.counted.CountedLine.{CountedLine}
 
 -- whether a line is skipped
 abbrev pub is_skipped : Skipped → Placed → Bool
-is_skipped Bare l = length (words_from is_blank l.at l.bytes) == 0
-is_skipped Empty l = length l.bytes == 0
+is_skipped Skipped.Bare l = length (words_from is_blank l.at l.bytes) == 0
+is_skipped Skipped.Empty l = length l.bytes == 0
 
 -- the lines of a form that are skipped
 abbrev pub skipped_by : RuleForm → Skipped
-skipped_by Long = Bare
-skipped_by Change = Bare
-skipped_by Short = Empty
+skipped_by RuleForm.Long = Skipped.Bare
+skipped_by RuleForm.Change = Skipped.Bare
+skipped_by RuleForm.Short = Skipped.Empty
 
 -- a line and its number
 pub record NumberedLine : Type 0 where

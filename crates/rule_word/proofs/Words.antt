@@ -2,7 +2,7 @@ use Rattle.std.proofs.Common.{◌≡◌, ℕ, ◌<◌, refl, ap, sym, ◌∙◌,
 use Rattle.std.specs.Prelude.{Some}
 use Rattle.smack_base.specs.declared.modes.Modes.{Modes}
 use Rattle.smack_base.specs.declared.rule_op.RuleOp.{RuleOp}
-use Rattle.smack_base.specs.declared.rule_op.RuleOp.TheVariants.{Set, Change, Revoke, OnlyClear, OnlyAdd, Ambient, Ptrace, Logging}
+use Rattle.smack_base.specs.declared.rule_op.RuleOp.TheVariants as RuleOp
 use Rattle.rule_word.specs.Layout.{modes_number, word, op_word, IsPackable, head_word, IsHead}
 use Rattle.rule_word.specs.Fields.{tag_in, first_in, second_in, allow_in, deny_in, op_of_fields, op_in, task_in, seq_in, len_in}
 use Rattle.rule_word.proofs.Numbers.{modes_few, modes_back}
@@ -24,20 +24,20 @@ few m = let f = modes_few m in omega arith
 
 -- the fields of the word of a write say the write
 pub op_back : (op : RuleOp) → IsPackable op → op_in (op_word op) ≡ Some op
-op_back (Set s o m) p =
+op_back (RuleOp.Set s o m) p =
     let a = p.0 in let b = p.1 in
     fields_back 1 s.0 o.0 (modes_number m) 0 (omega arith) (omega arith) (omega arith) (few m) (omega arith)
-    ∙ ap (λ x. Some (Set s o x)) (modes_back m)
-op_back (Change s o allow deny) p =
+    ∙ ap (λ x. Some (RuleOp.Set s o x)) (modes_back m)
+op_back (RuleOp.Change s o allow deny) p =
     let a = p.0 in let b = p.1 in
     fields_back 2 s.0 o.0 (modes_number allow) (modes_number deny) (omega arith) (omega arith) (omega arith) (few allow) (few deny)
-    ∙ (λ i. Some (Change s o (modes_back allow i) (modes_back deny i)))
-op_back (Revoke s) p = fields_back 3 s.0 0 0 0 (omega arith) (omega arith) (omega arith) (omega arith) (omega arith)
-op_back OnlyClear p = refl
-op_back (OnlyAdd l) p = fields_back 5 l.0 0 0 0 (omega arith) (omega arith) (omega arith) (omega arith) (omega arith)
-op_back (Ambient l) p = fields_back 6 l.0 0 0 0 (omega arith) (omega arith) (omega arith) (omega arith) (omega arith)
-op_back (Ptrace n) p = fields_back 7 0 0 n 0 (omega arith) (omega arith) (omega arith) (omega arith) (omega arith)
-op_back (Logging n) p = fields_back 8 0 0 n 0 (omega arith) (omega arith) (omega arith) (omega arith) (omega arith)
+    ∙ (λ i. Some (RuleOp.Change s o (modes_back allow i) (modes_back deny i)))
+op_back (RuleOp.Revoke s) p = fields_back 3 s.0 0 0 0 (omega arith) (omega arith) (omega arith) (omega arith) (omega arith)
+op_back RuleOp.OnlyClear p = refl
+op_back (RuleOp.OnlyAdd l) p = fields_back 5 l.0 0 0 0 (omega arith) (omega arith) (omega arith) (omega arith) (omega arith)
+op_back (RuleOp.Ambient l) p = fields_back 6 l.0 0 0 0 (omega arith) (omega arith) (omega arith) (omega arith) (omega arith)
+op_back (RuleOp.Ptrace n) p = fields_back 7 0 0 n 0 (omega arith) (omega arith) (omega arith) (omega arith) (omega arith)
+op_back (RuleOp.Logging n) p = fields_back 8 0 0 n 0 (omega arith) (omega arith) (omega arith) (omega arith) (omega arith)
 
 -- writes with one word are one
 pub op_one : (a b : RuleOp) → IsPackable a → IsPackable b → op_word a ≡ op_word b → Some a ≡ Some b

@@ -2,7 +2,7 @@ use Rattle.std.specs.Prelude.{ℕ, ◌/◌, ◌%◌, ◌^◌, ◌==◌, if◌the
 use Rattle.smack_base.specs.declared.modes.Modes.{Modes}
 use Rattle.smack_base.specs.declared.ids.LabelId.{LabelId}
 use Rattle.smack_base.specs.declared.rule_op.RuleOp.{RuleOp}
-use Rattle.smack_base.specs.declared.rule_op.RuleOp.TheVariants.{Set, Change, Revoke, OnlyClear, OnlyAdd, Ambient, Ptrace, Logging}
+use Rattle.smack_base.specs.declared.rule_op.RuleOp.TheVariants as RuleOp
 
 -- the fields of a word
 abbrev pub tag_in : ℕ → ℕ
@@ -37,14 +37,14 @@ label_in n = record { 0 = n }
 -- the write that fields say, where their tag is that of one
 abbrev pub op_of_fields : ℕ → ℕ → ℕ → ℕ → ℕ → Option RuleOp
 op_of_fields tag first second allow deny =
-    if tag == 1 then Some (Set (label_in first) (label_in second) (modes_in allow))
-    else (if tag == 2 then Some (Change (label_in first) (label_in second) (modes_in allow) (modes_in deny))
-    else (if tag == 3 then Some (Revoke (label_in first))
-    else (if tag == 4 then Some OnlyClear
-    else (if tag == 5 then Some (OnlyAdd (label_in first))
-    else (if tag == 6 then Some (Ambient (label_in first))
-    else (if tag == 7 then Some (Ptrace allow)
-    else (if tag == 8 then Some (Logging allow) else None)))))))
+    if tag == 1 then Some (RuleOp.Set (label_in first) (label_in second) (modes_in allow))
+    else (if tag == 2 then Some (RuleOp.Change (label_in first) (label_in second) (modes_in allow) (modes_in deny))
+    else (if tag == 3 then Some (RuleOp.Revoke (label_in first))
+    else (if tag == 4 then Some RuleOp.OnlyClear
+    else (if tag == 5 then Some (RuleOp.OnlyAdd (label_in first))
+    else (if tag == 6 then Some (RuleOp.Ambient (label_in first))
+    else (if tag == 7 then Some (RuleOp.Ptrace allow)
+    else (if tag == 8 then Some (RuleOp.Logging allow) else None)))))))
 
 -- what the fields of a word say, whether or not it is the word of a write
 abbrev pub op_in : ℕ → Option RuleOp

@@ -2,7 +2,7 @@ use Rattle.std.specs.Prelude.{ℕ, ◌+◌, ◌*◌, ◌^◌, ◌<◌, ◌≤◌
 use Rattle.smack_base.specs.declared.modes.Modes.{Modes}
 use Rattle.smack_base.specs.declared.ids.LabelId.{LabelId}
 use Rattle.smack_base.specs.declared.rule_op.RuleOp.{RuleOp}
-use Rattle.smack_base.specs.declared.rule_op.RuleOp.TheVariants.{Set, Change, Revoke, OnlyClear, OnlyAdd, Ambient, Ptrace, Logging}
+use Rattle.smack_base.specs.declared.rule_op.RuleOp.TheVariants as RuleOp
 
 -- a flag that counts n where it is set
 abbrev pub worth : Bool → ℕ → ℕ
@@ -21,14 +21,14 @@ word tag first second allow deny =
 
 -- each kind of write has a tag; a field that it does not use is 0
 abbrev pub op_word : RuleOp → ℕ
-op_word (Set s o m) = word 1 s.0 o.0 (modes_number m) 0
-op_word (Change s o allow deny) = word 2 s.0 o.0 (modes_number allow) (modes_number deny)
-op_word (Revoke s) = word 3 s.0 0 0 0
-op_word OnlyClear = word 4 0 0 0 0
-op_word (OnlyAdd l) = word 5 l.0 0 0 0
-op_word (Ambient l) = word 6 l.0 0 0 0
-op_word (Ptrace n) = word 7 0 0 n 0
-op_word (Logging n) = word 8 0 0 n 0
+op_word (RuleOp.Set s o m) = word 1 s.0 o.0 (modes_number m) 0
+op_word (RuleOp.Change s o allow deny) = word 2 s.0 o.0 (modes_number allow) (modes_number deny)
+op_word (RuleOp.Revoke s) = word 3 s.0 0 0 0
+op_word RuleOp.OnlyClear = word 4 0 0 0 0
+op_word (RuleOp.OnlyAdd l) = word 5 l.0 0 0 0
+op_word (RuleOp.Ambient l) = word 6 l.0 0 0 0
+op_word (RuleOp.Ptrace n) = word 7 0 0 n 0
+op_word (RuleOp.Logging n) = word 8 0 0 n 0
 
 -- a label id is at most 65,534
 abbrev pub IsId : LabelId → Type 0
@@ -36,14 +36,14 @@ IsId l = l.0 ≤ 65534
 
 -- the writes that have a word: those of ids, of ptrace policies 0 to 2 and of logging modes 0 to 3
 abbrev pub IsPackable : RuleOp → Type 0
-IsPackable (Set s o m) = IsId s × IsId o
-IsPackable (Change s o allow deny) = IsId s × IsId o
-IsPackable (Revoke s) = IsId s
-IsPackable OnlyClear = Unit {0}
-IsPackable (OnlyAdd l) = IsId l
-IsPackable (Ambient l) = IsId l
-IsPackable (Ptrace n) = n ≤ 2
-IsPackable (Logging n) = n ≤ 3
+IsPackable (RuleOp.Set s o m) = IsId s × IsId o
+IsPackable (RuleOp.Change s o allow deny) = IsId s × IsId o
+IsPackable (RuleOp.Revoke s) = IsId s
+IsPackable RuleOp.OnlyClear = Unit {0}
+IsPackable (RuleOp.OnlyAdd l) = IsId l
+IsPackable (RuleOp.Ambient l) = IsId l
+IsPackable (RuleOp.Ptrace n) = n ≤ 2
+IsPackable (RuleOp.Logging n) = n ≤ 3
 
 -- the word of a head, by its fields from the highest bit: 15 in 4 bits, task 12, seq 20, len 16; the last 12 bits are 0
 abbrev pub head_word : ℕ → ℕ → ℕ → ℕ

@@ -2,7 +2,7 @@ use Rattle.std.specs.Prelude.{ℕ, Bool, true, false, ◌&&◌, ◌||◌, if◌t
 use Rattle.smack_base.specs.declared.modes.Modes.{Modes}
 use Rattle.smack_base.specs.declared.ids.LabelId.{LabelId}
 use Rattle.smack_base.specs.declared.cap.Cap.{Cap}
-use Rattle.smack_base.specs.declared.cap.Cap.TheVariants.{MacAdmin, MacOverride, SysPtrace}
+use Rattle.smack_base.specs.declared.cap.Cap.TheVariants as Cap
 use Rattle.smack_base.specs.declared.rule_op.Pair.{Pair}
 use Rattle.rules_spec.specs.Versions.{floor, same_pair}
 use Rattle.rules_spec.specs.Rulings.{Ruling, has_label}
@@ -28,15 +28,15 @@ creds_first = record {
 }
 
 abbrev pub holds_cap : Creds → Cap → Bool
-holds_cap c MacAdmin = c.mac_admin
-holds_cap c MacOverride = c.mac_override
-holds_cap c SysPtrace = c.sys_ptrace
+holds_cap c Cap.MacAdmin = c.mac_admin
+holds_cap c Cap.MacOverride = c.mac_override
+holds_cap c Cap.SysPtrace = c.sys_ptrace
 
 -- the credentials without a capability
 abbrev pub without_cap : Creds → Cap → Creds
-without_cap c MacAdmin = record c { mac_admin = false }
-without_cap c MacOverride = record c { mac_override = false }
-without_cap c SysPtrace = record c { sys_ptrace = false }
+without_cap c Cap.MacAdmin = record c { mac_admin = false }
+without_cap c Cap.MacOverride = record c { mac_override = false }
+without_cap c Cap.SysPtrace = record c { sys_ptrace = false }
 
 abbrev pub with_label : Creds → LabelId → Creds
 with_label c l = record c { label = l }
@@ -66,9 +66,9 @@ abbrev pub is_listed : Creds → LabelId → Bool
 is_listed c l = has_label c.relabels l
 
 abbrev pub is_trace : Cap → Bool
-is_trace MacAdmin = false
-is_trace MacOverride = false
-is_trace SysPtrace = true
+is_trace Cap.MacAdmin = false
+is_trace Cap.MacOverride = false
+is_trace Cap.SysPtrace = true
 
 -- A capability is effective where the task holds it and the onlycap list of the version is empty or has the task's
 -- label; CAP_SYS_PTRACE is not governed by the list.

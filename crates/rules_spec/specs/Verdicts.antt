@@ -1,7 +1,7 @@
 use Rattle.std.specs.Prelude.{◌==◌, Bool, true, false, ◌&&◌, not, if◌then◌else◌, Option, Some, None}
 use Rattle.smack_base.specs.declared.modes.Modes.{Modes}
 use Rattle.smack_base.specs.declared.ids.LabelId.{LabelId}
-use Rattle.smack_base.specs.declared.cap.Cap.TheVariants.{MacOverride, SysPtrace}
+use Rattle.smack_base.specs.declared.cap.Cap.TheVariants as Cap
 use Rattle.smack_base.specs.Modes.{holds}
 use Rattle.rules_spec.specs.declared.Verdict.{Verdict}
 use Rattle.rules_spec.specs.Versions.{same_label}
@@ -26,7 +26,7 @@ overridden privileged v = if privileged && not v.allowed then record v { allowed
 -- the full verdict of a task's question: the ordered cases, then its self rules, then its privilege
 abbrev pub full_verdict : Creds → Ruling → LabelId → LabelId → Modes → Verdict
 full_verdict c version s o m =
-    overridden (is_effective c MacOverride version) (restricted (self_rule c.self_rules s o) (verdict_of_cases version s o m))
+    overridden (is_effective c Cap.MacOverride version) (restricted (self_rule c.self_rules s o) (verdict_of_cases version s o m))
 
 -- case 10: a task attaches to a task with its own label alone
 abbrev pub same_label_verdict : LabelId → LabelId → Verdict
@@ -37,4 +37,4 @@ same_label_verdict s o = record { allowed = same_label s o; case = 10; over = 0;
 abbrev pub attach_verdict : Creds → Ruling → LabelId → Verdict
 attach_verdict c version o =
     if version.ptrace == 0 then full_verdict c version c.label o read_write
-    else overridden (version.ptrace == 1 && is_effective c SysPtrace version) (same_label_verdict c.label o)
+    else overridden (version.ptrace == 1 && is_effective c Cap.SysPtrace version) (same_label_verdict c.label o)

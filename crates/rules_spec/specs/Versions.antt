@@ -4,7 +4,7 @@ use Rattle.smack_base.specs.Modes.{no_modes, union, without}
 use Rattle.smack_base.specs.declared.modes.Modes.{Modes}
 use Rattle.smack_base.specs.declared.ids.LabelId.{LabelId}
 use Rattle.smack_base.specs.declared.rule_op.RuleOp.{RuleOp}
-use Rattle.smack_base.specs.declared.rule_op.RuleOp.TheVariants.{Set, Change, Revoke, OnlyClear, OnlyAdd, Ambient, Ptrace, Logging}
+use Rattle.smack_base.specs.declared.rule_op.RuleOp.TheVariants as RuleOp
 use Rattle.rules_spec.specs.declared.Batch.{Batch}
 
 -- the predefined labels that the rules name
@@ -39,15 +39,15 @@ revoked (Some m) = Some no_modes
 
 -- the rights of the pair (s, o) after one more write, from those before it
 abbrev pub after_write : LabelId → LabelId → Option Modes → RuleOp → Option Modes
-after_write s o before (Set s' o' m) = if same_pair s' o' s o then Some m else before
-after_write s o before (Change s' o' allow deny) =
+after_write s o before (RuleOp.Set s' o' m) = if same_pair s' o' s o then Some m else before
+after_write s o before (RuleOp.Change s' o' allow deny) =
     if same_pair s' o' s o then Some (without (union (present before) allow) deny) else before
-after_write s o before (Revoke s') = if same_label s' s then revoked before else before
-after_write s o before OnlyClear = before
-after_write s o before (OnlyAdd l) = before
-after_write s o before (Ambient l) = before
-after_write s o before (Ptrace n) = before
-after_write s o before (Logging n) = before
+after_write s o before (RuleOp.Revoke s') = if same_label s' s then revoked before else before
+after_write s o before RuleOp.OnlyClear = before
+after_write s o before (RuleOp.OnlyAdd l) = before
+after_write s o before (RuleOp.Ambient l) = before
+after_write s o before (RuleOp.Ptrace n) = before
+after_write s o before (RuleOp.Logging n) = before
 
 -- the rights of a pair in a version: None where there is no rule
 abbrev pub rights : List Batch → LabelId → LabelId → Option Modes
@@ -55,56 +55,56 @@ rights version s o = fold (after_write s o) None (writes version)
 
 -- the onlycap list after one more write
 abbrev pub after_only : List LabelId → RuleOp → List LabelId
-after_only list OnlyClear = []
-after_only list (OnlyAdd l) = list ++ l ∷ []
-after_only list (Set s o m) = list
-after_only list (Change s o allow deny) = list
-after_only list (Revoke s) = list
-after_only list (Ambient l) = list
-after_only list (Ptrace n) = list
-after_only list (Logging n) = list
+after_only list RuleOp.OnlyClear = []
+after_only list (RuleOp.OnlyAdd l) = list ++ l ∷ []
+after_only list (RuleOp.Set s o m) = list
+after_only list (RuleOp.Change s o allow deny) = list
+after_only list (RuleOp.Revoke s) = list
+after_only list (RuleOp.Ambient l) = list
+after_only list (RuleOp.Ptrace n) = list
+after_only list (RuleOp.Logging n) = list
 
 -- the onlycap list of a version: the labels added since it was last cleared
 abbrev pub only : List Batch → List LabelId
 only version = fold after_only [] (writes version)
 
 abbrev pub after_ambient : LabelId → RuleOp → LabelId
-after_ambient before (Ambient l) = l
-after_ambient before (Set s o m) = before
-after_ambient before (Change s o allow deny) = before
-after_ambient before (Revoke s) = before
-after_ambient before OnlyClear = before
-after_ambient before (OnlyAdd l) = before
-after_ambient before (Ptrace n) = before
-after_ambient before (Logging n) = before
+after_ambient before (RuleOp.Ambient l) = l
+after_ambient before (RuleOp.Set s o m) = before
+after_ambient before (RuleOp.Change s o allow deny) = before
+after_ambient before (RuleOp.Revoke s) = before
+after_ambient before RuleOp.OnlyClear = before
+after_ambient before (RuleOp.OnlyAdd l) = before
+after_ambient before (RuleOp.Ptrace n) = before
+after_ambient before (RuleOp.Logging n) = before
 
 -- the ambient label of a version
 abbrev pub ambient : List Batch → LabelId
 ambient version = fold after_ambient floor (writes version)
 
 abbrev pub after_ptrace : ℕ → RuleOp → ℕ
-after_ptrace before (Ptrace n) = n
-after_ptrace before (Set s o m) = before
-after_ptrace before (Change s o allow deny) = before
-after_ptrace before (Revoke s) = before
-after_ptrace before OnlyClear = before
-after_ptrace before (OnlyAdd l) = before
-after_ptrace before (Ambient l) = before
-after_ptrace before (Logging n) = before
+after_ptrace before (RuleOp.Ptrace n) = n
+after_ptrace before (RuleOp.Set s o m) = before
+after_ptrace before (RuleOp.Change s o allow deny) = before
+after_ptrace before (RuleOp.Revoke s) = before
+after_ptrace before RuleOp.OnlyClear = before
+after_ptrace before (RuleOp.OnlyAdd l) = before
+after_ptrace before (RuleOp.Ambient l) = before
+after_ptrace before (RuleOp.Logging n) = before
 
 -- the ptrace policy of a version
 abbrev pub ptrace : List Batch → ℕ
 ptrace version = fold after_ptrace 0 (writes version)
 
 abbrev pub after_logging : ℕ → RuleOp → ℕ
-after_logging before (Logging n) = n
-after_logging before (Set s o m) = before
-after_logging before (Change s o allow deny) = before
-after_logging before (Revoke s) = before
-after_logging before OnlyClear = before
-after_logging before (OnlyAdd l) = before
-after_logging before (Ambient l) = before
-after_logging before (Ptrace n) = before
+after_logging before (RuleOp.Logging n) = n
+after_logging before (RuleOp.Set s o m) = before
+after_logging before (RuleOp.Change s o allow deny) = before
+after_logging before (RuleOp.Revoke s) = before
+after_logging before RuleOp.OnlyClear = before
+after_logging before (RuleOp.OnlyAdd l) = before
+after_logging before (RuleOp.Ambient l) = before
+after_logging before (RuleOp.Ptrace n) = before
 
 -- the logging mode of a version
 abbrev pub logging : List Batch → ℕ

@@ -3,7 +3,7 @@ use Rattle.std.proofs.Common.{◌≡◌, ℕ, suc, ◌+◌, ◌<◌, ◌≤◌, 
 use Rattle.std.proofs.lemmas.List.{length-take-le, get_or-take}
 use Rattle.std.proofs.Math.ListN.{get_or-map}
 use Rattle.smack_base.specs.declared.ids.Pid.{Pid}
-use Rattle.record_spec.specs.declared.AskedWhat.TheVariants.{Wait}
+use Rattle.record_spec.specs.declared.AskedWhat.TheVariants as AskedWhat
 use Rattle.legal_spec.specs.Calls.{Stands}
 use Rattle.legal_spec.specs.Lines.{IsAskedOfLine}
 use Rattle.live_table.proofs.Lists.{long_map}
@@ -34,7 +34,7 @@ module _ (p n to : ℕ) (xs : List Line) (d : Line) (low : n < to) (high : to �
       (stands_here (map call_seen xs) n (call_seen d) (omega (arith, long_map call_seen xs)))
 
   pub wait_at : (names : List (List ℕ)) (child : Pid) → (get_or xs n d).task ≡ p
-      → ((labels : List (List ℕ)) → IsAskedOfLine labels names (call_seen (get_or xs n d)) (Wait child))
+      → ((labels : List (List ℕ)) → IsAskedOfLine labels names (call_seen (get_or xs n d)) (AskedWhat.Wait child))
       → IsWaitAt names (map call_seen xs) p child n to
   wait_at names child e waits = record { line = call_seen (get_or xs n d); waits = waits; is = line_at e }
 
@@ -64,7 +64,7 @@ module _ (names : List (List ℕ)) (child : Pid) where
     more last = subst (NoneWaits names child) (sym (cut p from n (n + 1) (map call_seen xs) low (omega arith) (omega (arith, high, long_map call_seen xs))))
         (none_both names child (segment p from n (map call_seen xs)) (segment p n (n + 1) (map call_seen xs)) none last)
 
-    pub none_of_own : (get_or xs n d).task ≡ p → ((labels : List (List ℕ)) → IsAskedOfLine labels names (call_seen (get_or xs n d)) (Wait child) → ⊥)
+    pub none_of_own : (get_or xs n d).task ≡ p → ((labels : List (List ℕ)) → IsAskedOfLine labels names (call_seen (get_or xs n d)) (AskedWhat.Wait child) → ⊥)
         → NoneWaits names child (segment p from (n + 1) (map call_seen xs))
     none_of_own e not_so = more (subst (NoneWaits names child)
         (sym (line_at p n (n + 1) xs d (omega arith) (omega (arith, high)) e

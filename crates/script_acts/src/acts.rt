@@ -1,9 +1,7 @@
 ghost use Rattle.std.specs.Prelude.{◌≡◌, ◌≤◌, ℕ, List, length, Some, IfOk};
 ghost use Rattle.script_spec.specs.Grammar.{most_tasks};
 ghost use Rattle.script_spec.specs.Lines.{verb_in};
-ghost use Rattle.script_spec.specs.declared.Verb.TheVariants as verbs;
 ghost use Rattle.script_text.specs.Lines.{call_seen};
-ghost use Rattle.world_spec.specs.declared.Call.TheVariants as calls;
 ghost use Rattle.script_acts.specs.Acts.{IsActOf, IsAnyAct};
 
 use label_table::Labels;
@@ -30,7 +28,7 @@ pub enum Act {
 
 #[tactic(auto, using(crate::proofs::LineActs::no_subject, crate::proofs::LineActs::no_object, crate::proofs::LineActs::no_modes))]
 fn question(labels: &Labels, line: &Line<'_>) -> Option<Act>
-    requires { verb_in (call_seen line.now) ≡ Some verbs.Ask }
+    requires { verb_in (call_seen line.now) ≡ Some Verb.Ask }
     ensures { (names : List (List ℕ)) → IsAnyAct labels.now names (call_seen line.now) result }
 {
     let words = words_of(line);
@@ -49,7 +47,7 @@ fn question(labels: &Labels, line: &Line<'_>) -> Option<Act>
 #[tactic(auto, using(crate::proofs::LineActs::no_child))]
 fn wait(names: &[Bytes], line: &Line<'_>) -> Option<Act>
     requires names { length names.now ≤ most_tasks }
-    requires verb { verb_in (call_seen line.now) ≡ Some verbs.Wait }
+    requires verb { verb_in (call_seen line.now) ≡ Some Verb.Wait }
     ensures { (labels : List (List ℕ)) → IsAnyAct labels names.now (call_seen line.now) result }
 {
     match pid_in(names, words_of(line).one) {
@@ -61,7 +59,7 @@ fn wait(names: &[Bytes], line: &Line<'_>) -> Option<Act>
 /// A call on tasks as what it does.
 #[tactic(auto, using(crate::proofs::LineActs::no_fork))]
 fn act_of_call(call: TaskCall) -> Act
-    ensures { IsActOf (calls.Task call) result }
+    ensures { IsActOf (Call.Task call) result }
 {
     match call {
         TaskCall::Fork { pid } => Act::Fork(pid),
@@ -72,7 +70,7 @@ fn act_of_call(call: TaskCall) -> Act
 #[tactic(auto, using(crate::proofs::LineActs::task_acts, crate::proofs::LineActs::no_task_call))]
 fn task_act(labels: &Labels, names: &[Bytes], line: &Line<'_>, verb: TaskVerb) -> Option<Act>
     requires names { length names.now ≤ most_tasks }
-    requires verb { verb_in (call_seen line.now) ≡ Some (verbs.Task verb) }
+    requires verb { verb_in (call_seen line.now) ≡ Some (Verb.Task verb) }
     ensures { IsAnyAct labels.now names.now (call_seen line.now) result }
 {
     match task_call(labels, names, line, verb) {
@@ -83,7 +81,7 @@ fn task_act(labels: &Labels, names: &[Bytes], line: &Line<'_>, verb: TaskVerb) -
 
 #[tactic(auto, using(crate::proofs::LineActs::tree_acts, crate::proofs::LineActs::no_tree_call))]
 fn tree_act(alloc: Global, line: &Line<'_>, verb: TreeVerb) -> Result<Option<Act>, AllocError>
-    requires { verb_in (call_seen line.now) ≡ Some (verbs.Tree verb) }
+    requires { verb_in (call_seen line.now) ≡ Some (Verb.Tree verb) }
     ensures { IfOk result (λ act. (labels names : List (List ℕ)) → IsAnyAct labels names (call_seen line.now) act) }
 {
     match tree_call(alloc, line, verb)? {

@@ -2,7 +2,7 @@ ghost use Rattle.std.specs.Prelude.{◌≡◌, ◌≤◌, ◌<◌, ◌+◌, [], 
 ghost use Rattle.std.specs.Bool.{OnTrue, OnFalse};
 ghost use Rattle.script_spec.specs.Grammar.{most_tasks};
 ghost use Rattle.script_text.specs.Lines.{call_seen};
-ghost use Rattle.record_spec.specs.declared.AskedWhat.TheVariants.{Wait};
+ghost use Rattle.record_spec.specs.declared.AskedWhat.TheVariants as AskedWhat;
 ghost use Rattle.legal_spec.specs.Calls.{Stands};
 ghost use Rattle.legal_spec.specs.Lines.{IsAskedOfLine};
 ghost use Rattle.task_runs.specs.Scripts.{segment};
@@ -39,8 +39,8 @@ pub fn line_between<'a>(
 /// Whether a line waits for the task with a pid.
 fn awaits(names: &[Bytes], line: &Line<'_>, child: Pid) -> bool
     requires { length names.now ≤ most_tasks }
-    ensures is { OnTrue result ((labels : List (List ℕ)) → IsAskedOfLine labels names.now (call_seen line.now) (Wait child)) }
-    ensures is_not { OnFalse result ((labels : List (List ℕ)) → IsAskedOfLine labels names.now (call_seen line.now) (Wait child) → ⊥) }
+    ensures is { OnTrue result ((labels : List (List ℕ)) → IsAskedOfLine labels names.now (call_seen line.now) (AskedWhat.Wait child)) }
+    ensures is_not { OnFalse result ((labels : List (List ℕ)) → IsAskedOfLine labels names.now (call_seen line.now) (AskedWhat.Wait child) → ⊥) }
 {
     match verb_of(line.verb.bytes) {
         Some(Verb::Wait) => pid_in(names, words_of(line).one) == Some(child),

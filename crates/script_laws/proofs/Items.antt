@@ -3,11 +3,11 @@ use Rattle.std.specs.Option.{option_map}
 use Rattle.std.proofs.lemmas.Bool.{ne_eqb, le-leb}
 use Rattle.text_spec.specs.Texts.{TextLine, Placed, whole_lines}
 use Rattle.script_spec.specs.declared.Cause.{Cause}
-use Rattle.script_spec.specs.declared.Cause.TheVariants.{Verb as NoVerb, Words, Word, Text, NotBuilt}
+use Rattle.script_spec.specs.declared.Cause.TheVariants as Cause
 use Rattle.script_spec.specs.declared.Verb.{Verb}
 use Rattle.script_spec.specs.declared.ScriptFault.{ScriptFault}
-use Rattle.script_spec.specs.declared.ScriptFault.TheVariants.{Malformed, TooLarge}
-use Rattle.script_spec.specs.declared.What.TheVariants.{Lines}
+use Rattle.script_spec.specs.declared.ScriptFault.TheVariants as ScriptFault
+use Rattle.script_spec.specs.declared.What.TheVariants as What
 use Rattle.script_spec.specs.Words.{verb_of, kinds_of, bad_word, has_deep_path, is_task_name, is_unbuilt_verb}
 use Rattle.script_spec.specs.Lines.{ScriptLine}
 use Rattle.script_spec.specs.Tasks.{Tasks, tasks_of}
@@ -79,17 +79,17 @@ some_none : (c : Cause) → Some c ≡ None → ⊥
 some_none c e = cc
 
 missing : (file count : Bool) (word : Option ℕ) (deep : Bool) (more : List (Option Cause))
-    → first_cause (cause_if file NotBuilt ∷ cause_if count Words ∷ option_map (λ k. Word k) word ∷ cause_if deep NotBuilt ∷ Some Text ∷ more) ≡ None
+    → first_cause (cause_if file Cause.NotBuilt ∷ cause_if count Cause.Words ∷ option_map (λ k. Cause.Word k) word ∷ cause_if deep Cause.NotBuilt ∷ Some Cause.Text ∷ more) ≡ None
     → ⊥
-missing true count word deep more e = some_none NotBuilt e
-missing false true word deep more e = some_none Words e
-missing false false (Some k) deep more e = some_none (Word k) e
-missing false false None true more e = some_none NotBuilt e
-missing false false None false more e = some_none Text e
+missing true count word deep more e = some_none Cause.NotBuilt e
+missing false true word deep more e = some_none Cause.Words e
+missing false false (Some k) deep more e = some_none (Cause.Word k) e
+missing false false None true more e = some_none Cause.NotBuilt e
+missing false false None false more e = some_none Cause.Text e
 
-not_unless : (b : Bool) → (if b then Some NotBuilt else Some NoVerb) ≡ None → ⊥
-not_unless true e = some_none NotBuilt e
-not_unless false e = some_none NoVerb e
+not_unless : (b : Bool) → (if b then Some Cause.NotBuilt else Some Cause.Verb) ≡ None → ⊥
+not_unless true e = some_none Cause.NotBuilt e
+not_unless false e = some_none Cause.Verb e
 
 verb_missing : (tasks : Tasks) (task : List ℕ) (name : Placed) (verb : Option Verb) (ws : List Placed) → verb_cause tasks task name verb ws false ≡ None → ⊥
 verb_missing tasks task name None ws e = not_unless (is_unbuilt_verb name.bytes) e
@@ -97,21 +97,21 @@ verb_missing tasks task name (Some verb) ws e =
     missing (names_unbuilt_file verb ws) _ (bad_word (name ∷ []) (kinds_of verb) ws) (has_deep_path (kinds_of verb) ws) (task_causes tasks task verb ws) e
 
 behind_missing : (tasks : Tasks) (task : List ℕ) (ws : List Placed) → behind_task tasks task ws false ≡ None → ⊥
-behind_missing tasks task [] e = some_none NoVerb e
+behind_missing tasks task [] e = some_none Cause.Verb e
 behind_missing tasks task (v ∷ ws) e = verb_missing tasks task v (verb_of v.bytes) ws e
 
-if_named : (b : Bool) (behind : Option Cause) → (if b then behind else Some (Word 1)) ≡ None → behind ≡ None
+if_named : (b : Bool) (behind : Option Cause) → (if b then behind else Some (Cause.Word 1)) ≡ None → behind ≡ None
 if_named true behind e = e
-if_named false behind e = absurd (some_none (Word 1) e)
+if_named false behind e = absurd (some_none (Cause.Word 1) e)
 
 -- a line whose text is not all there has a cause
 pub text_is_missing : (tasks : Tasks) (ws : List Placed) → line_cause tasks ws false ≡ None → ⊥
-text_is_missing tasks [] e = some_none (Word 1) e
+text_is_missing tasks [] e = some_none (Cause.Word 1) e
 text_is_missing tasks (t ∷ ws) e = behind_missing tasks t.bytes ws (if_named (is_task_name t.bytes) (behind_task tasks t.bytes ws false) e)
 
 -- what an item breaks, over plain answers
 abbrev pub breaks : Bool → ℕ → Option Cause → List (Option ScriptFault) → Option ScriptFault
-breaks many line cause limits = first_of (fault_if many (TooLarge Lines) ∷ option_map (λ c. Malformed line c) cause ∷ limits)
+breaks many line cause limits = first_of (fault_if many (ScriptFault.TooLarge What.Lines) ∷ option_map (λ c. ScriptFault.Malformed line c) cause ∷ limits)
 
 pub breaks_nothing : (many : Bool) (line : ℕ) (cause : Option Cause) (limits : List (Option ScriptFault)) → breaks many line cause limits ≡ None
     → (many ≡ false) × (cause ≡ None) × (first_of limits ≡ None)

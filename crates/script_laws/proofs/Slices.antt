@@ -11,8 +11,8 @@ use Rattle.rule_text.proofs.LineSlices.{lies_behind, lies_first, lines_adjoin}
 use Rattle.rule_text.proofs.WholeLines.{whole_of_lines}
 use Rattle.rule_text.proofs.WordSlices.{words_are, lies_through}
 use Rattle.script_spec.specs.declared.ScriptFault.{ScriptFault}
-use Rattle.script_spec.specs.declared.ScriptFault.TheVariants.{TooLarge}
-use Rattle.script_spec.specs.declared.What.TheVariants.{Bytes}
+use Rattle.script_spec.specs.declared.ScriptFault.TheVariants as ScriptFault
+use Rattle.script_spec.specs.declared.What.TheVariants as What
 use Rattle.script_spec.specs.Lines.{ScriptLine}
 use Rattle.script_spec.specs.Grammar.{Item, items, item_of, is_skipped, spaced_words, text_count, text_bytes, call_of, item_fault, calls_of, unless_fault, lines_fault, script_of, most_bytes}
 use Rattle.script_laws.specs.Slices.{IsSliced, CallsAreSlices}
@@ -104,7 +104,7 @@ calls_sliced bytes behind above (i ∷ is) lines read sliced lie =
     (All-tail (IsPart 0 bytes) i is lie)
 
 not_too_large : (many : Bool) (script : Result (List ScriptLine) ScriptFault) (lines : List ScriptLine)
-    → (if many then Err (TooLarge Bytes) else script) ≡ Ok lines → script ≡ Ok lines
+    → (if many then Err (ScriptFault.TooLarge What.Bytes) else script) ≡ Ok lines → script ≡ Ok lines
 not_too_large true script lines is = cc
 not_too_large false script lines is = is
 

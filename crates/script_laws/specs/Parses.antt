@@ -1,9 +1,9 @@
 use Rattle.std.specs.Prelude.{◌≡◌, ◌≤◌, ◌<◌, ◌⊎◌, ℕ, ◌+◌, true, false, List, [], ◌∷◌, ◌++◌, Option, Some, None, Result, Ok, Err, length, drop}
 use Rattle.std.specs.List.{list_all}
 use Rattle.text_spec.specs.Texts.{TextLine, lines_from, whole_line, whole_lines}
-use Rattle.script_spec.specs.declared.What.TheVariants.{Bytes}
+use Rattle.script_spec.specs.declared.What.TheVariants as What
 use Rattle.script_spec.specs.declared.ScriptFault.{ScriptFault}
-use Rattle.script_spec.specs.declared.ScriptFault.TheVariants.{TooLarge}
+use Rattle.script_spec.specs.declared.ScriptFault.TheVariants as ScriptFault
 use Rattle.script_spec.specs.Words.{word_at}
 use Rattle.script_spec.specs.Lines.{ScriptLine}
 use Rattle.script_spec.specs.Tasks.{Tasks, tasks_of, pid_of}
@@ -84,5 +84,5 @@ ReadsAs whole above number lines read =
 -- The grammar of scripts: these bytes are too many, or their lines are those of a script, or have this first fault.
 abbrev pub Parses : List ℕ → Result (List ScriptLine) ScriptFault → Type 0
 Parses bytes read =
-    ((most_bytes < length bytes) × (read ≡ Err (TooLarge Bytes)))
+    ((most_bytes < length bytes) × (read ≡ Err (ScriptFault.TooLarge What.Bytes)))
     ⊎ ((length bytes ≤ most_bytes) × ReadsAs (lines_fault (lines_from 0 bytes)) [] 1 (lines_from 0 bytes) read)

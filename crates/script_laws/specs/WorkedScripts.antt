@@ -1,9 +1,9 @@
 use Rattle.std.specs.Prelude.{◌≡◌, ℕ, zero, suc, ◌+◌, ◌/◌, ◌%◌, List, [], ◌∷◌, ◌++◌, Result, Ok, Err, length, map, codes}
 use Rattle.script_spec.specs.declared.Cause.{Cause}
-use Rattle.script_spec.specs.declared.Cause.TheVariants.{Task, Verb, Word, Words, Text, Name, Wait, NotBuilt}
-use Rattle.script_spec.specs.declared.What.TheVariants.{Tasks}
+use Rattle.script_spec.specs.declared.Cause.TheVariants as Cause
+use Rattle.script_spec.specs.declared.What.TheVariants as What
 use Rattle.script_spec.specs.declared.ScriptFault.{ScriptFault}
-use Rattle.script_spec.specs.declared.ScriptFault.TheVariants.{Malformed, TooLarge}
+use Rattle.script_spec.specs.declared.ScriptFault.TheVariants as ScriptFault
 use Rattle.script_spec.specs.Words.{word_at}
 use Rattle.script_spec.specs.Lines.{ScriptLine, word_in, table_of}
 use Rattle.script_spec.specs.Tasks.{task_names}
@@ -11,46 +11,46 @@ use Rattle.script_spec.specs.Grammar.{parse}
 
 -- a script whose first bad line is this one, for this cause
 abbrev pub IsBad : List ℕ → ℕ → Cause → Type 0
-IsBad script line cause = parse script ≡ Err (Malformed line cause)
+IsBad script line cause = parse script ≡ Err (ScriptFault.Malformed line cause)
 
 -- Scripts with a bad line, and why it is bad.
 pub record WorkedScripts : Type 0 where
-  pub nobody : IsBad (codes "B ask A B r") 1 Task
-  pub exited : IsBad (codes "init fork B\nB exit\ninit take\nB take\n") 4 Task
-  pub awaited : IsBad (codes "init fork B\ninit wait B\nB take\n") 3 Task
-  pub grandchild : IsBad (codes "init fork B\nB fork C\ninit wait B\nC take\n") 4 Task
-  pub forked_twice : IsBad (codes "init fork B\ninit fork B\n") 2 Name
-  pub forks_init : IsBad (codes "init fork init") 1 Name
-  pub kills_nobody : IsBad (codes "init kill B 9") 1 Name
-  pub traces_nobody : IsBad (codes "init trace read B") 1 Name
-  pub elder_child : IsBad (codes "init fork B\ninit fork C\ninit wait B\n") 3 Wait
-  pub child_of_another : IsBad (codes "init fork B\nB fork C\ninit wait C\n") 3 Wait
-  pub awaited_twice : IsBad (codes "init fork B\ninit wait B\ninit wait B\n") 3 Wait
-  pub no_signal : IsBad (codes "init kill init 0") 1 (Word 4)
-  pub signal_32 : IsBad (codes "init kill init 32") 1 (Word 4)
-  pub no_way : IsBad (codes "init trace look init") 1 (Word 3)
-  pub short_text : IsBad (codes "init write load2 2\nA B r\n") 1 Text
-  pub no_verb : IsBad (codes "init frob") 1 Verb
-  pub task_before_name : IsBad (codes "B fork init") 1 Task
-  pub text_before_task : IsBad (codes "B write load2 1") 1 Text
-  pub no_locks : IsBad (codes "init lock 0 shared") 1 NotBuilt
-  pub no_unconfined : IsBad (codes "init write unconfined") 1 NotBuilt
-  pub no_exec : IsBad (codes "init exec /f") 1 NotBuilt
-  pub deep_path : IsBad (codes "init create /a/b") 1 NotBuilt
-  pub zero_byte : IsBad (0 ∷ []) 1 (Word 1)
-  pub tab_in_task : IsBad (codes "init" ++ 9 ∷ codes "ask A B r") 1 (Word 1)
-  pub task_alone : IsBad (codes "init") 1 Verb
-  pub return_behind_task : IsBad (codes "init" ++ 13 ∷ codes "\n") 1 (Word 1)
-  pub too_many_words : IsBad (codes "init ask A B r x") 1 Words
-  pub words_behind_exit : IsBad (codes "init exit x y") 1 Words
-  pub tab_between_words : IsBad (codes "init ask A B" ++ 9 ∷ codes "r") 1 Words
-  pub behind_a_comment : IsBad (codes "init ask A B r\n# c\ninit ask A B z\n") 3 (Word 5)
-  pub return_behind_modes : IsBad (codes "init ask A B r" ++ 13 ∷ codes "\n") 1 (Word 5)
-  pub zero_in_front : IsBad (codes "init write load2 01\nA B r\n") 1 (Word 4)
-  pub number_2_to_32 : IsBad (codes "init write load2 4294967296\n") 1 (Word 4)
-  pub text_ends_early : IsBad (codes "init write load2 2\nA B r") 1 Text
-  pub long_name : IsBad (codes "init fork abcdefghijklmnopq") 1 (Word 3)
-  pub long_file : IsBad (codes "init write abcdefghijklmnopqrstuvwxyz0123456 0") 1 (Word 3)
+  pub nobody : IsBad (codes "B ask A B r") 1 Cause.Task
+  pub exited : IsBad (codes "init fork B\nB exit\ninit take\nB take\n") 4 Cause.Task
+  pub awaited : IsBad (codes "init fork B\ninit wait B\nB take\n") 3 Cause.Task
+  pub grandchild : IsBad (codes "init fork B\nB fork C\ninit wait B\nC take\n") 4 Cause.Task
+  pub forked_twice : IsBad (codes "init fork B\ninit fork B\n") 2 Cause.Name
+  pub forks_init : IsBad (codes "init fork init") 1 Cause.Name
+  pub kills_nobody : IsBad (codes "init kill B 9") 1 Cause.Name
+  pub traces_nobody : IsBad (codes "init trace read B") 1 Cause.Name
+  pub elder_child : IsBad (codes "init fork B\ninit fork C\ninit wait B\n") 3 Cause.Wait
+  pub child_of_another : IsBad (codes "init fork B\nB fork C\ninit wait C\n") 3 Cause.Wait
+  pub awaited_twice : IsBad (codes "init fork B\ninit wait B\ninit wait B\n") 3 Cause.Wait
+  pub no_signal : IsBad (codes "init kill init 0") 1 (Cause.Word 4)
+  pub signal_32 : IsBad (codes "init kill init 32") 1 (Cause.Word 4)
+  pub no_way : IsBad (codes "init trace look init") 1 (Cause.Word 3)
+  pub short_text : IsBad (codes "init write load2 2\nA B r\n") 1 Cause.Text
+  pub no_verb : IsBad (codes "init frob") 1 Cause.Verb
+  pub task_before_name : IsBad (codes "B fork init") 1 Cause.Task
+  pub text_before_task : IsBad (codes "B write load2 1") 1 Cause.Text
+  pub no_locks : IsBad (codes "init lock 0 shared") 1 Cause.NotBuilt
+  pub no_unconfined : IsBad (codes "init write unconfined") 1 Cause.NotBuilt
+  pub no_exec : IsBad (codes "init exec /f") 1 Cause.NotBuilt
+  pub deep_path : IsBad (codes "init create /a/b") 1 Cause.NotBuilt
+  pub zero_byte : IsBad (0 ∷ []) 1 (Cause.Word 1)
+  pub tab_in_task : IsBad (codes "init" ++ 9 ∷ codes "ask A B r") 1 (Cause.Word 1)
+  pub task_alone : IsBad (codes "init") 1 Cause.Verb
+  pub return_behind_task : IsBad (codes "init" ++ 13 ∷ codes "\n") 1 (Cause.Word 1)
+  pub too_many_words : IsBad (codes "init ask A B r x") 1 Cause.Words
+  pub words_behind_exit : IsBad (codes "init exit x y") 1 Cause.Words
+  pub tab_between_words : IsBad (codes "init ask A B" ++ 9 ∷ codes "r") 1 Cause.Words
+  pub behind_a_comment : IsBad (codes "init ask A B r\n# c\ninit ask A B z\n") 3 (Cause.Word 5)
+  pub return_behind_modes : IsBad (codes "init ask A B r" ++ 13 ∷ codes "\n") 1 (Cause.Word 5)
+  pub zero_in_front : IsBad (codes "init write load2 01\nA B r\n") 1 (Cause.Word 4)
+  pub number_2_to_32 : IsBad (codes "init write load2 4294967296\n") 1 (Cause.Word 4)
+  pub text_ends_early : IsBad (codes "init write load2 2\nA B r") 1 Cause.Text
+  pub long_name : IsBad (codes "init fork abcdefghijklmnopq") 1 (Cause.Word 3)
+  pub long_file : IsBad (codes "init write abcdefghijklmnopqrstuvwxyz0123456 0") 1 (Cause.Word 3)
 
 -- the calls of a script; none where it is bad
 abbrev pub calls_read : Result (List ScriptLine) ScriptFault → List ScriptLine
@@ -90,6 +90,6 @@ pub record ReadScripts : Type 0 where
   pub longest_name : task_names (calls_of (codes "init fork abcdefghijklmnop\nabcdefghijklmnop exit")) ≡ codes "init" ∷ codes "abcdefghijklmnop" ∷ []
   pub longest_file : length (calls_of (codes "init write abcdefghijklmnopqrstuvwxyz012345 0")) ≡ 1
   pub most_tasks : length (task_names (calls_of (forks 63))) ≡ 64
-  pub too_many_tasks : parse (forks 64) ≡ Err (TooLarge Tasks)
+  pub too_many_tasks : parse (forks 64) ≡ Err (ScriptFault.TooLarge What.Tasks)
   pub labels_of_words_and_texts : label_counts (codes "init write load-self2 2\nA B r\nB C r\n" ∷ codes "init write load2 2\nA B r\nB C r\n" ∷ codes "init write revoke-subject 1\nA\ninit relabel A" ∷ codes "init write onlycap 1\nA B A _\n" ∷ codes "init write ambient 1\nA\ninit ask B _ r" ∷ []) ≡ 8 ∷ 8 ∷ 6 ∷ 7 ∷ 7 ∷ []
   pub no_labels_of_bad_texts : label_counts (codes "init write relabel-self 1\nA - B\n" ∷ codes "init write load2 2\nA B r\nB C z\n" ∷ codes "init write load3 1\nA B r\n" ∷ codes "init write onlycap 1\n-\n" ∷ codes "init write ptrace 1\n1\ninit create /A" ∷ []) ≡ 5 ∷ 5 ∷ 5 ∷ 5 ∷ 5 ∷ []

@@ -3,7 +3,6 @@ ghost use Rattle.text_spec.specs.Names.{id_of};
 ghost use Rattle.rules_spec.specs.Creds.{is_effective};
 ghost use Rattle.rules_spec.specs.Rulings.{ruling};
 ghost use Rattle.file_spec.specs.Files.{compiled};
-ghost use Rattle.file_spec.specs.declared.Compiled.TheVariants.{Rules};
 ghost use Rattle.world_spec.specs.Worlds.{creds_of};
 ghost use Rattle.script_spec.specs.Grammar.{most_tasks};
 ghost use Rattle.script_spec.specs.Lines.{word_in};
@@ -121,7 +120,7 @@ impl Runner {
     ) -> Result<(), AllocError>
         requires few { length self.old.journal < 2 ^ 32 - 1 }
         requires running { IsRunning self.old }
-        ensures { OnOk result (Runs self.old self.new (written (seen self.old) (call_seen line.now) (Ok (Rules ops)))) }
+        ensures { OnOk result (Runs self.old self.new (written (seen self.old) (call_seen line.now) (Ok (Compiled.Rules ops)))) }
     {
         if self.may_write(alloc, line) {
             self.publish(line, ops)

@@ -21,7 +21,7 @@ use Rattle.script_text.specs.Scripts.{AreRead}
 use Rattle.script_run.specs.Closings.{HasRun}
 use Rattle.script_run.specs.Stops.{IsCause}
 use Rattle.script_run.specs.declared.making.Stop.{Stop}
-use Rattle.script_run.specs.declared.making.Stop.TheVariants as stops
+use Rattle.script_run.specs.declared.making.Stop.TheVariants as Stop
 
 -- the first task of a kernel may close it, however far it came
 pub may_close : (lines : List ScriptLine) (read : AreRead lines) (stop : Bool) (table : TableId) (v w : TaskValue) (asked : List AskedLine)
@@ -51,7 +51,7 @@ pub stop_of_script : (lines : List ScriptLine) (read : AreRead lines) (stop : Op
     (asked : List AskedLine) (labels : List (List ℕ)) (closed : ClosedValue) → v ≡ first_task table
     → Ran (is_some stop) (scripted lines) (lines_by 0 lines) [] v w [] asked
     → IfSome stop (IsCause (scripted lines) (lines_by 0 lines) v w) → stop ≡ Some why → labels ≡ table_of lines → Closes labels w closed
-    → why ≡ stops.Memory
+    → why ≡ Stop.Memory
 stop_of_script lines read stop why table v w asked labels closed first ran cause is named closes =
     by why (subst (λ (o : Option Stop). IfSome o (IsCause (scripted lines) (lines_by 0 lines) (first_task table) w)) is
     (subst (λ (u : TaskValue). IfSome stop (IsCause (scripted lines) (lines_by 0 lines) u w)) first cause))
@@ -61,12 +61,12 @@ stop_of_script lines read stop why table v w asked labels closed first ran cause
   where
     by : (x : Stop) → IsCause (scripted lines) (lines_by 0 lines) (first_task table) w x
         → (IsOutOfEntries (scripted lines) (lines_by 0 lines) (first_task table) w → ⊥) × (IsOutOfCalls (scripted lines) w → ⊥)
-        × (HasForkedNone w → ⊥) → x ≡ stops.Memory
-    by stops.Memory c room = refl
-    by stops.TrailFull c room = absurd (room.0 c)
-    by stops.NoChild c room = absurd (room.2 c)
-    by stops.SeqFull c room = absurd (room.1 c)
-    by stops.Unscripted c room =
+        × (HasForkedNone w → ⊥) → x ≡ Stop.Memory
+    by Stop.Memory c room = refl
+    by Stop.TrailFull c room = absurd (room.0 c)
+    by Stop.NoChild c room = absurd (room.2 c)
+    by Stop.SeqFull c room = absurd (room.1 c)
+    by Stop.Unscripted c room =
         let orderly = scripts_are_orderly read.0 lines read.1 in absurd (c orderly (orderly 0))
 
 -- a worker that did not stop ran all lines

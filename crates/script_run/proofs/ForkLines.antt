@@ -2,8 +2,8 @@
 use Rattle.std.proofs.Common.{◌≡◌, ℕ, zero, suc, ◌+◌, ◌<◌, ⊎_elim, List, [], ◌∷◌, ◌++◌, length, refl, sym, ap, subst, ◌∙◌, arith, append_assoc, Some}
 use Rattle.std.specs.Prelude.{take, Option}
 use Rattle.smack_base.specs.declared.ids.Pid.{Pid}
-use Rattle.world_spec.specs.declared.TaskCall.TheVariants.{Fork}
-use Rattle.world_spec.specs.declared.Call.TheVariants.{Task}
+use Rattle.world_spec.specs.declared.TaskCall.TheVariants as TaskCall
+use Rattle.world_spec.specs.declared.Call.TheVariants as Call
 use Rattle.script_spec.specs.Lines.{ScriptLine, table_of}
 use Rattle.script_spec.specs.Tasks.{task_names}
 use Rattle.script_text.specs.Scripts.{AreRead}
@@ -47,7 +47,7 @@ module _ (labels names : List (List ℕ)) (table : IsNameTable names) where
 
   before_fork : (above ls : List ScriptLine) → AreGoodLines above ls → names ≡ task_names (above ++ ls)
       → AreNamed above (length (task_names above)) → (n : ℕ) (l : ScriptLine) (pid : Pid) → Stands ls n l
-      → call_of_line labels names l ≡ Some (Task (Fork pid)) → AreNamed (above ++ take (suc n) ls) pid.0
+      → call_of_line labels names l ≡ Some (Call.Task (TaskCall.Fork pid)) → AreNamed (above ++ take (suc n) ls) pid.0
   before_fork above [] good whole named n l pid at forks = cc
   before_fork above (x ∷ ls) good whole named zero l pid at forks =
       let same = same_line x l at in

@@ -3,11 +3,11 @@ use Rattle.std.proofs.Common.{◌≡◌, ℕ, ◌+◌, ◌<◌, ◌≤◌, List,
 use Rattle.std.proofs.lemmas.Bool.{true≢false}
 use Rattle.smack_base.specs.declared.ids.Pid.{Pid}
 use Rattle.world_spec.specs.declared.Call.{Call}
-use Rattle.world_spec.specs.declared.Call.TheVariants.{Task}
-use Rattle.world_spec.specs.declared.TaskCall.TheVariants.{Fork as ForkTask}
+use Rattle.world_spec.specs.declared.Call.TheVariants as Call
+use Rattle.world_spec.specs.declared.TaskCall.TheVariants as TaskCall
 use Rattle.script_spec.specs.declared.Verb.{Verb}
-use Rattle.script_spec.specs.declared.Verb.TheVariants as verbs
-use Rattle.script_spec.specs.declared.TaskVerb.TheVariants.{Fork, Exit, Relabel, Drop, Kill, Take, Trace}
+use Rattle.script_spec.specs.declared.Verb.TheVariants as Verb
+use Rattle.script_spec.specs.declared.TaskVerb.TheVariants as TaskVerb
 use Rattle.script_spec.specs.Lines.{ScriptLine, word_in, verb_in}
 use Rattle.script_spec.specs.Tasks.{change_by}
 use Rattle.record_spec.specs.declared.AskedLine.{AskedLine}
@@ -22,42 +22,42 @@ use Rattle.task_runs.proofs.Segments.{cut, empty}
 use Rattle.script_acts.specs.Acts.{IsAct}
 use Rattle.script_acts.specs.Places.{IsWaitAt}
 use Rattle.script_acts.specs.declared.acts.Act.{Act}
-use Rattle.script_acts.specs.declared.acts.Act.TheVariants as acts
+use Rattle.script_acts.specs.declared.acts.Act.TheVariants as Act
 
 module _ (s : Scripted) (l : ScriptLine) (ls : List ScriptLine) where
   by_verb : (verb : Option Verb) → verb_in l ≡ verb → IsOrderly s (l ∷ ls) → IsOrderlyBehind s (open_after s.names [] (change_by verb l)) ls
   by_verb verb e is = subst (λ v. IsOrderlyBehind s (open_after s.names [] (change_by v l)) ls) e is.1
 
   -- no child is open that a line may wait for
-  pub no_child : (pid : Pid) → IsAct s.labels s.names l (acts.Wait pid) → IsDisorderly s (l ∷ ls)
-  no_child pid act all is = by_verb (Some verbs.Wait) act.0 is
+  pub no_child : (pid : Pid) → IsAct s.labels s.names l (Act.Wait pid) → IsDisorderly s (l ∷ ls)
+  no_child pid act all is = by_verb (Some Verb.Wait) act.0 is
 
-  forked : (found : Option Pid) (call : Call) → of_one (of_one found (λ p. ForkTask p)) (λ c. Task c) ≡ Some call → is_fork call ≡ false → ⊥
+  forked : (found : Option Pid) (call : Call) → of_one (of_one found (λ p. TaskCall.Fork p)) (λ c. Call.Task c) ≡ Some call → is_fork call ≡ false → ⊥
   forked None call is not_so = cc
-  forked (Some p) call is not_so = let same : Task (ForkTask p) ≡ call = cc in true≢false (ap is_fork same ∙ not_so)
+  forked (Some p) call is not_so = let same : Call.Task (TaskCall.Fork p) ≡ call = cc in true≢false (ap is_fork same ∙ not_so)
 
   made : (call : Call) (verb : Option Verb) → call_by s.labels s.names l verb ≡ Some call → is_fork call ≡ false
       → IsOrderlyBehind s (open_after s.names [] (change_by verb l)) ls → IsOrderly s ls
   made call None makes not_so is = cc
-  made call (Some verbs.Write) makes not_so is = is
-  made call (Some verbs.Ask) makes not_so is = is
-  made call (Some verbs.Wait) makes not_so is = absurd is
-  made call (Some (verbs.Task Fork)) makes not_so is = absurd (forked (pid_in s.names (word_in 1 l)) call makes not_so)
-  made call (Some (verbs.Task Exit)) makes not_so is = is
-  made call (Some (verbs.Task Relabel)) makes not_so is = is
-  made call (Some (verbs.Task Drop)) makes not_so is = is
-  made call (Some (verbs.Task Kill)) makes not_so is = is
-  made call (Some (verbs.Task Take)) makes not_so is = is
-  made call (Some (verbs.Task Trace)) makes not_so is = is
-  made call (Some (verbs.Tree verb)) makes not_so is = is
+  made call (Some Verb.Write) makes not_so is = is
+  made call (Some Verb.Ask) makes not_so is = is
+  made call (Some Verb.Wait) makes not_so is = absurd is
+  made call (Some (Verb.Task TaskVerb.Fork)) makes not_so is = absurd (forked (pid_in s.names (word_in 1 l)) call makes not_so)
+  made call (Some (Verb.Task TaskVerb.Exit)) makes not_so is = is
+  made call (Some (Verb.Task TaskVerb.Relabel)) makes not_so is = is
+  made call (Some (Verb.Task TaskVerb.Drop)) makes not_so is = is
+  made call (Some (Verb.Task TaskVerb.Kill)) makes not_so is = is
+  made call (Some (Verb.Task TaskVerb.Take)) makes not_so is = is
+  made call (Some (Verb.Task TaskVerb.Trace)) makes not_so is = is
+  made call (Some (Verb.Tree verb)) makes not_so is = is
 
   -- behind a line that forks nothing
-  pub act_behind : (act : Act) → IsAct s.labels s.names l act → ((pid : Pid) → act ≡ acts.Fork pid → ⊥) → IsOrderly s (l ∷ ls) → IsOrderly s ls
-  act_behind acts.Write act not_so is = by_verb (Some verbs.Write) act is
-  act_behind (acts.Ask subject object modes) act not_so is = by_verb (Some verbs.Ask) act.0 is
-  act_behind (acts.Wait pid) act not_so is = absurd (by_verb (Some verbs.Wait) act.0 is)
-  act_behind (acts.Fork pid) act not_so is = absurd (not_so pid refl)
-  act_behind (acts.Make call) act not_so is = made call (verb_in l) act.0 act.1 is.1
+  pub act_behind : (act : Act) → IsAct s.labels s.names l act → ((pid : Pid) → act ≡ Act.Fork pid → ⊥) → IsOrderly s (l ∷ ls) → IsOrderly s ls
+  act_behind Act.Write act not_so is = by_verb (Some Verb.Write) act is
+  act_behind (Act.Ask subject object modes) act not_so is = by_verb (Some Verb.Ask) act.0 is
+  act_behind (Act.Wait pid) act not_so is = absurd (by_verb (Some Verb.Wait) act.0 is)
+  act_behind (Act.Fork pid) act not_so is = absurd (not_so pid refl)
+  act_behind (Act.Make call) act not_so is = made call (verb_in l) act.0 act.1 is.1
 
 module _ (s : Scripted) (p : ℕ) (child : Pid) (at until to : ℕ) (l : ScriptLine) (low : at ≤ until) (mid : until ≤ to)
     (high : to ≤ length s.lines) (forks : ForksTask s l child.0) (none : NoneWaits s.names child (segment p at until s.lines))

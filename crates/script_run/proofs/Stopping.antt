@@ -2,16 +2,16 @@
 use Rattle.std.proofs.Common.{◌≡◌, ◌⊎◌, ℕ, ◌≤◌, List, [], ◌∷◌, length, length-append, take, not, Bool, true, false, Option, Some, None, sym, refl, ap, ◌∙◌, subst, arith, IfSome, ⊎_elim, inl, inr}
 use Rattle.smack_base.specs.declared.ids.Pid.{Pid}
 use Rattle.world_spec.specs.declared.Call.{Call}
-use Rattle.world_spec.specs.declared.Call.TheVariants.{Task}
-use Rattle.world_spec.specs.declared.TaskCall.TheVariants.{Fork}
-use Rattle.world_spec.specs.declared.Reply.TheVariants.{Child}
+use Rattle.world_spec.specs.declared.Call.TheVariants as Call
+use Rattle.world_spec.specs.declared.TaskCall.TheVariants as TaskCall
+use Rattle.world_spec.specs.declared.Reply.TheVariants as Reply
 use Rattle.record_spec.specs.declared.AskedLine.{AskedLine}
 use Rattle.script_spec.specs.Lines.{ScriptLine}
 use Rattle.smack_kernel.specs.Tasks.{TaskValue, Calls, Starts, Adopts, most_calls}
 use Rattle.smack_kernel.specs.Answers.{IsTrailFull, IsSeqFull, IsCalled, IsForked}
 use Rattle.smack_kernel.specs.declared.turns.Entered.{Entered}
 use Rattle.smack_kernel.specs.declared.kernel.Called.{Called}
-use Rattle.smack_kernel.specs.declared.kernel.Called.TheVariants as calls
+use Rattle.smack_kernel.specs.declared.kernel.Called.TheVariants as Called
 use Rattle.task_runs.specs.Scripts.{Scripted, scripted, ForksTask, lines_by, segment}
 use Rattle.task_runs.specs.Runs.{Went, Ran}
 use Rattle.task_runs.specs.Stops.{IsOutOfEntries, IsOutOfCalls}
@@ -21,7 +21,7 @@ use Rattle.task_runs.proofs.Segments.{cut, from_here}
 use Rattle.script_run.specs.Stops.{IsCause, IsOwnStop, IsMeetCause, without_child}
 use Rattle.script_run.proofs.Orders.{fork_mine}
 use Rattle.script_run.specs.declared.making.Stop.{Stop}
-use Rattle.script_run.specs.declared.making.Stop.TheVariants as stops
+use Rattle.script_run.specs.declared.making.Stop.TheVariants as Stop
 
 pub trail_full : (s : Scripted) (l : ScriptLine) (ls : List ScriptLine) (v w : TaskValue) → IsTrailFull v w → IsOutOfEntries s (l ∷ ls) v w
 trail_full s l ls v w q = out_here s l ls v w q.1 q.2
@@ -32,20 +32,20 @@ seq_full s v w q = inl (subst (λ (u : TaskValue). most_calls ≤ u.made) (sym q
 -- a fork that made no child
 pub fork_cause : (v w : TaskValue) (pid : Pid) (called : Called) → IsForked v w pid called None → (s : Scripted) (l : ScriptLine)
     (ls : List ScriptLine) → IsCause s (l ∷ ls) v w (without_child called)
-fork_cause v w pid (calls.Entry r) f s l ls = none_here v w pid r f.1 f.2
-fork_cause v w pid (calls.TrailFull back) f s l ls = trail_full s l ls v w f.0
-fork_cause v w pid (calls.SeqFull back) f s l ls = seq_full s v w f.0
+fork_cause v w pid (Called.Entry r) f s l ls = none_here v w pid r f.1 f.2
+fork_cause v w pid (Called.TrailFull back) f s l ls = trail_full s l ls v w f.0
+fork_cause v w pid (Called.SeqFull back) f s l ls = seq_full s v w f.0
 
 -- a call that could not be made
-pub call_full : (s : Scripted) (l : ScriptLine) (ls : List ScriptLine) (v w : TaskValue) (call back : Call) (f : Called) → f ≡ calls.TrailFull back
+pub call_full : (s : Scripted) (l : ScriptLine) (ls : List ScriptLine) (v w : TaskValue) (call back : Call) (f : Called) → f ≡ Called.TrailFull back
     → IsCalled v w call f → IsOutOfEntries s (l ∷ ls) v w
 call_full s l ls v w call back f e h = trail_full s l ls v w (subst (IsCalled v w call) e h).0
 
-pub call_seq : (s : Scripted) (v w : TaskValue) (call back : Call) (f : Called) → f ≡ calls.SeqFull back → IsCalled v w call f → IsOutOfCalls s w
+pub call_seq : (s : Scripted) (v w : TaskValue) (call back : Call) (f : Called) → f ≡ Called.SeqFull back → IsCalled v w call f → IsOutOfCalls s w
 call_seq s v w call back f e h = seq_full s v w (subst (IsCalled v w call) e h).0
 
 -- a stop for want of memory has a cause
-pub memory_cause : (s : Scripted) (ls : List ScriptLine) (v w : TaskValue) (stop : Option Stop) → IfSome stop (λ x. x ≡ stops.Memory)
+pub memory_cause : (s : Scripted) (ls : List ScriptLine) (v w : TaskValue) (stop : Option Stop) → IfSome stop (λ x. x ≡ Stop.Memory)
     → IfSome stop (IsCause s ls v w)
 memory_cause s ls v w None m = tt
 memory_cause s ls v w (Some x) m = subst (IsCause s ls v w) (sym m) tt
@@ -55,13 +55,13 @@ pub cause_then : (s : Scripted) (ls mid mid' : List ScriptLine) (v u w : TaskVal
     → Ran false s ls mid v u x y → mid ≡ mid' → (IsOrderly s ls → IsOrderly s mid) → IfSome stop (IsCause s mid' u w)
     → IfSome stop (IsCause s ls v w)
 cause_then s ls mid mid' v u w x y None ran e on cause = tt
-cause_then s ls mid mid' v u w x y (Some stops.Memory) ran e on cause = tt
-cause_then s ls mid mid' v u w x y (Some stops.TrailFull) ran e on cause =
+cause_then s ls mid mid' v u w x y (Some Stop.Memory) ran e on cause = tt
+cause_then s ls mid mid' v u w x y (Some Stop.TrailFull) ran e on cause =
     out_then s ls mid v u w (subst (λ (rest : List ScriptLine). Went true s ls rest v u) (ran.on refl) ran.went)
     (subst (λ (rest : List ScriptLine). IsOutOfEntries s rest u w) (sym e) cause)
-cause_then s ls mid mid' v u w x y (Some stops.NoChild) ran e on cause = cause
-cause_then s ls mid mid' v u w x y (Some stops.SeqFull) ran e on cause = cause
-cause_then s ls mid mid' v u w x y (Some stops.Unscripted) ran e on cause = λ all is. cause all (subst (IsOrderly s) e (on is))
+cause_then s ls mid mid' v u w x y (Some Stop.NoChild) ran e on cause = cause
+cause_then s ls mid mid' v u w x y (Some Stop.SeqFull) ran e on cause = cause
+cause_then s ls mid mid' v u w x y (Some Stop.Unscripted) ran e on cause = λ all is. cause all (subst (IsOrderly s) e (on is))
 
 same_stop : (P : Stop → Type 0) (stop : Option Stop) (x : Stop) → stop ≡ Some x → IfSome stop P → P x
 same_stop P stop x e p = subst (λ (o : Option Stop). IfSome o P) e p
@@ -70,7 +70,7 @@ same_stop P stop x e p = subst (λ (o : Option Stop). IfSome o P) e p
 module _ (s : Scripted) (p : ℕ) (child : Pid) (at until to last : ℕ) (l : ScriptLine) (v u u' c c' w : TaskValue) (r : Entered)
     (asked mine_asked told : List AskedLine) (a b : Bool) (mine theirs : Option Stop) (low : at ≤ until) (mid : until ≤ to)
     (high : to ≤ length s.lines) (end : last ≡ length s.lines) (first : lines_by child.0 (take at s.lines) ≡ [])
-    (call_ : Calls v u (Task (Fork child)) r) (is_child : r.reply ≡ Child c.number) (st : Starts u c c.number)
+    (call_ : Calls v u (Call.Task (TaskCall.Fork child)) r) (is_child : r.reply ≡ Reply.Child c.number) (st : Starts u c c.number)
     (mine_ran : Ran a s (segment p at until s.lines) [] u u' asked mine_asked) (their_ran : Ran b s (segment child.0 at last s.lines) [] c c' [] told)
     (my_cause : IfSome mine (IsCause s (segment p at until s.lines) u u')) (their_cause : IfSome theirs (IsCause s (segment child.0 at last s.lines) c c'))
     (forks : ForksTask s l child.0) (none : NoneWaits s.names child (segment p at until s.lines)) where
@@ -86,31 +86,31 @@ module _ (s : Scripted) (p : ℕ) (child : Pid) (at until to last : ℕ) (l : Sc
       )
 
   of_mine : (stop : Stop) → Adopts u' c' w → IsCause s (segment p at until s.lines) u u' stop → IsCause s (l ∷ segment p at to s.lines) v w stop
-  of_mine stops.Memory d cause = tt
-  of_mine stops.TrailFull d cause = out_mine s u' c' w d l (segment p at until s.lines) (segment p at to s.lines) v u call_.made fewer cause
-  of_mine stops.NoChild d cause = none_mine s u' c' w d cause
-  of_mine stops.SeqFull d cause = calls_mine s u' c' w d cause
-  of_mine stops.Unscripted d cause = λ all is. cause all (fork_mine s p child at until to l low mid high forks none is)
+  of_mine Stop.Memory d cause = tt
+  of_mine Stop.TrailFull d cause = out_mine s u' c' w d l (segment p at until s.lines) (segment p at to s.lines) v u call_.made fewer cause
+  of_mine Stop.NoChild d cause = none_mine s u' c' w d cause
+  of_mine Stop.SeqFull d cause = calls_mine s u' c' w d cause
+  of_mine Stop.Unscripted d cause = λ all is. cause all (fork_mine s p child at until to l low mid high forks none is)
 
   went : Went (not b) s (lines_by child.0 s.lines) their_ran.left c c'
   went = subst (λ (ls : List ScriptLine). Went (not b) s ls their_ran.left c c') all_lines their_ran.went
 
   of_theirs : (stop : Stop) → Adopts u' c' w → IsCause s (segment child.0 at last s.lines) c c' stop → IsCause s (l ∷ segment p at to s.lines) v w stop
-  of_theirs stops.Memory d cause = tt
-  of_theirs stops.TrailFull d cause =
+  of_theirs Stop.Memory d cause = tt
+  of_theirs Stop.TrailFull d cause =
       out_theirs s u' c' w d (not b) their_ran.left v u c child r call_ is_child st mine_ran.went.history went (l ∷ segment p at to s.lines)
       (subst (λ (ls : List ScriptLine). IsOutOfEntries s ls c c') all_lines cause)
-  of_theirs stops.NoChild d cause = none_theirs s u' c' w d cause
-  of_theirs stops.SeqFull d cause =
+  of_theirs Stop.NoChild d cause = none_theirs s u' c' w d cause
+  of_theirs Stop.SeqFull d cause =
       calls_theirs s u' c' w d (not b) their_ran.left v u c child r call_ is_child st mine_ran.went.history went cause
-  of_theirs stops.Unscripted d cause = λ all is. cause all (subst (IsOrderly s) (sym all_lines) (all child.0))
+  of_theirs Stop.Unscripted d cause = λ all is. cause all (subst (IsOrderly s) (sym all_lines) (all child.0))
 
   of_meeting : (stop : Stop) → IsOwnStop w stop → IsCause s (l ∷ segment p at to s.lines) v w stop
-  of_meeting stops.Memory own = tt
-  of_meeting stops.TrailFull own = absurd own
-  of_meeting stops.NoChild own = absurd own
-  of_meeting stops.SeqFull own = inl own
-  of_meeting stops.Unscripted own = absurd own
+  of_meeting Stop.Memory own = tt
+  of_meeting Stop.TrailFull own = absurd own
+  of_meeting Stop.NoChild own = absurd own
+  of_meeting Stop.SeqFull own = inl own
+  of_meeting Stop.Unscripted own = absurd own
 
   pub fork_lines_cause : (stop : Option Stop) → IfSome stop (IsMeetCause mine theirs u' c' w) → IfSome stop (IsCause s (l ∷ segment p at to s.lines) v w)
   fork_lines_cause None met = tt
@@ -130,7 +130,7 @@ work_cause lines s pid n stop v w e end a =
 -- where a task has adopted another
 module _ (mine theirs : Option Stop) (u c w : TaskValue) where
   pub meet_gather : (stop : Option Stop) → Adopts u c w
-      → IfSome stop (λ why. (mine ≡ Some why) ⊎ ((theirs ≡ Some why) ⊎ (why ≡ stops.Memory))) → IfSome stop (IsMeetCause mine theirs u c w)
+      → IfSome stop (λ why. (mine ≡ Some why) ⊎ ((theirs ≡ Some why) ⊎ (why ≡ Stop.Memory))) → IfSome stop (IsMeetCause mine theirs u c w)
   meet_gather None d why = tt
   meet_gather (Some stop) d why =
       ⊎_elim (λ m. inl (m, d)) (λ o. ⊎_elim (λ t. inr (inl (t, d))) (λ e. inr (inr (subst (IsOwnStop w) (sym e) tt))) o) why

@@ -9,7 +9,7 @@ use Rattle.std.proofs.Math.Seq.{take-suc}
 use Rattle.std.proofs.Math.ListN.{get_or-map}
 use Rattle.live_table.proofs.Lists.{long_map}
 use Rattle.script_spec.specs.declared.Verb.{Verb}
-use Rattle.script_spec.specs.declared.Verb.TheVariants as verbs
+use Rattle.script_spec.specs.declared.Verb.TheVariants as Verb
 use Rattle.script_spec.specs.declared.TaskVerb.{TaskVerb}
 use Rattle.script_spec.specs.declared.TreeVerb.{TreeVerb}
 use Rattle.script_spec.specs.Words.{task_verb_of, tree_verb_of, verb_of}
@@ -84,9 +84,9 @@ module _ (from to least : ℕ) (ps : List ℕ) (n d : ℕ) (low : n < length ps)
       (⊎_elim (λ (a : get_or ps n d < from). inl a) (λ (b : least ≤ get_or ps n d). inr (omega (arith, is, b))) where_it_is)
 
 -- the lines between two places, where none of the places of waits is between them
-verb_no_wait : (name : List ℕ) → bytes_eq name (codes "wait") ≡ false → verb_of name ≡ Some verbs.Wait → ⊥
+verb_no_wait : (name : List ℕ) → bytes_eq name (codes "wait") ≡ false → verb_of name ≡ Some Verb.Wait → ⊥
 verb_no_wait name other = elim (cases_Bool (bytes_eq name (codes "write"))) [
-  | inl e ↦ simp e (λ is. let z : ◌≡◌ {A = Option Verb} (Some verbs.Write) (Some verbs.Wait) = is in cc)
+  | inl e ↦ simp e (λ is. let z : ◌≡◌ {A = Option Verb} (Some Verb.Write) (Some Verb.Wait) = is in cc)
   | inr e ↦ elim (cases_Bool (bytes_eq name (codes "ask"))) [
     | inl f ↦ simp (e, f) (λ is. cc)
     | inr f ↦ simp (e, f, other) (others (task_verb_of name) (tree_verb_of name))
@@ -94,12 +94,12 @@ verb_no_wait name other = elim (cases_Bool (bytes_eq name (codes "write"))) [
 ]
   where
     others : (task : Option TaskVerb) (tree : Option TreeVerb)
-        → option_or (option_map (λ verb. verbs.Task verb) task) (option_map (λ verb. verbs.Tree verb) tree) ≡ Some verbs.Wait → ⊥
+        → option_or (option_map (λ verb. Verb.Task verb) task) (option_map (λ verb. Verb.Tree verb) tree) ≡ Some Verb.Wait → ⊥
     others (Some t) tree is = cc
     others None (Some t) is = cc
     others None None is = cc
 
-line_no_wait : (l : ScriptLine) → is_wait l ≡ false → verb_in l ≡ Some verbs.Wait → ⊥
+line_no_wait : (l : ScriptLine) → is_wait l ≡ false → verb_in l ≡ Some Verb.Wait → ⊥
 line_no_wait l other = verb_no_wait (word_in 0 l) other
 
 clash : (at from to : ℕ) → from ≤ at → at < to → (at < from) ⊎ (to ≤ at) → ⊥

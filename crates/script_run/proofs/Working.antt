@@ -10,12 +10,12 @@ use Rattle.rules_spec.specs.Cases.{verdict_of_cases}
 use Rattle.text_spec.specs.Names.{id_of}
 use Rattle.file_spec.specs.declared.Refusal.{Refusal}
 use Rattle.world_spec.specs.declared.Call.{Call}
-use Rattle.world_spec.specs.declared.Call.TheVariants.{Task}
-use Rattle.world_spec.specs.declared.TaskCall.TheVariants.{Fork}
-use Rattle.world_spec.specs.declared.Reply.TheVariants.{Child}
+use Rattle.world_spec.specs.declared.Call.TheVariants as Call
+use Rattle.world_spec.specs.declared.TaskCall.TheVariants as TaskCall
+use Rattle.world_spec.specs.declared.Reply.TheVariants as Reply
 use Rattle.record_spec.specs.declared.AskedLine.{AskedLine}
-use Rattle.record_spec.specs.declared.AskedWhat.TheVariants.{Ask, Refused, Wait}
-use Rattle.script_spec.specs.declared.Verb.TheVariants as verbs
+use Rattle.record_spec.specs.declared.AskedWhat.TheVariants as AskedWhat
+use Rattle.script_spec.specs.declared.Verb.TheVariants as Verb
 use Rattle.script_spec.specs.Lines.{ScriptLine, word_in, verb_in, table_of}
 use Rattle.script_spec.specs.Tasks.{task_names}
 use Rattle.replay_spec.specs.Replays.{modes_in}
@@ -25,11 +25,11 @@ use Rattle.smack_kernel.specs.Tasks.{TaskValue, Stays, Calls, Starts, Adopts, An
 use Rattle.smack_kernel.specs.Answers.{is_fork, IsCalled, IsTrailFull, IsSeqFull, IsWritten, IsAsked, IsForked as IsKernelForked}
 use Rattle.smack_kernel.specs.declared.turns.Entered.{Entered}
 use Rattle.smack_kernel.specs.declared.kernel.Called.{Called}
-use Rattle.smack_kernel.specs.declared.kernel.Called.TheVariants as calls
+use Rattle.smack_kernel.specs.declared.kernel.Called.TheVariants as Called
 use Rattle.smack_kernel.specs.declared.kernel.Written.{Written}
-use Rattle.smack_kernel.specs.declared.kernel.Written.TheVariants as writes
+use Rattle.smack_kernel.specs.declared.kernel.Written.TheVariants as Written
 use Rattle.smack_kernel.specs.declared.kernel.Asked.{Asked}
-use Rattle.smack_kernel.specs.declared.kernel.Asked.TheVariants as asks
+use Rattle.smack_kernel.specs.declared.kernel.Asked.TheVariants as Asked
 use Rattle.task_runs.specs.Scripts.{Scripted, scripted, ForksTask, lines_by, segment}
 use Rattle.task_runs.specs.Runs.{Ran}
 use Rattle.task_runs.specs.Meetings.{MeetAt, Met}
@@ -44,10 +44,10 @@ use Rattle.script_run.specs.declared.making.Stop.{Stop}
 
 -- a fork that made no child
 pub unforked : (s : Scripted) (l : ScriptLine) (ls rest : List ScriptLine) (v w : TaskValue) (x y : List AskedLine) (pid : Pid)
-    → ForksTask s l pid.0 → Stays v w ⊎ ((r : Entered) × Calls v w (Task (Fork pid)) r × (child_of r.reply ≡ None))
+    → ForksTask s l pid.0 → Stays v w ⊎ ((r : Entered) × Calls v w (Call.Task (TaskCall.Fork pid)) r × (child_of r.reply ≡ None))
     → Ran true s (l ∷ ls) rest v w x y
 unforked s l ls rest v w x y pid line f = ⊎_elim (λ st. ran_stopped s (l ∷ ls) rest v w x y st)
-    (λ e. stopped false s (l ∷ ls) ls rest v w x y (went_entry false s l ls v w (Task (Fork pid)) e.0 line e.1 e.2
+    (λ e. stopped false s (l ∷ ls) ls rest v w x y (went_entry false s l ls v w (Call.Task (TaskCall.Fork pid)) e.0 line e.1 e.2
     (λ z. absurd (let x : ◌≡◌ {A = Bool} false true = z in cc)))) f
 
 -- the place where the halves of a fork meet
@@ -60,7 +60,7 @@ meet_place (Some l) stop at until to place m low high e = let x = m.0 in let y =
 module _ (s : Scripted) (p : ℕ) (child : Pid) (at until to last place : ℕ) (l : ScriptLine) (v u u' c c' w : TaskValue) (r : Entered)
     (asked mine_asked told after : List AskedLine) (a b stop : Bool) where
   pub fork_lines : at ≤ until → until ≤ to → to ≤ length s.lines → last ≡ length s.lines → lines_by child.0 (take at s.lines) ≡ []
-      → ForksTask s l child.0 → Calls v u (Task (Fork child)) r → r.reply ≡ Child c.number → Starts u c c.number
+      → ForksTask s l child.0 → Calls v u (Call.Task (TaskCall.Fork child)) r → r.reply ≡ Reply.Child c.number → Starts u c c.number
       → Ran a s (segment p at until s.lines) [] u u' asked mine_asked → Ran b s (segment child.0 at last s.lines) [] c c' [] told
       → Met s child.0 a b stop u' c' w mine_asked told after until to place
       → (until < to → IsWaitAt s.names s.lines p child until to)
@@ -80,67 +80,67 @@ module _ (s : Scripted) (p : ℕ) (child : Pid) (at until to last place : ℕ) (
         }
 
 pub forked_some : (v w c : TaskValue) (pid : Pid) (called : Called) → IsKernelForked v w pid called (Some c) → IsForked v w pid (Ok c)
-forked_some v w c pid (calls.Entry r) f = (r, f.1, f.2, f.3)
-forked_some v w c pid (calls.TrailFull back) f = absurd f
-forked_some v w c pid (calls.SeqFull back) f = absurd f
+forked_some v w c pid (Called.Entry r) f = (r, f.1, f.2, f.3)
+forked_some v w c pid (Called.TrailFull back) f = absurd f
+forked_some v w c pid (Called.SeqFull back) f = absurd f
 
 pub forked_none : (v w : TaskValue) (pid : Pid) (called : Called) (stop : Stop) → v.version ≤ length v.journal
     → IsKernelForked v w pid called None → IsForked v w pid (Err stop)
-forked_none v w pid (calls.Entry r) stop top f = inr (r, f.1, f.2)
-forked_none v w pid (calls.TrailFull back) stop top f = inl f.0.1
-forked_none v w pid (calls.SeqFull back) stop top f = inl (subst (λ (u : TaskValue). Stays v u) (sym f.0.1) (stays_self v top))
+forked_none v w pid (Called.Entry r) stop top f = inr (r, f.1, f.2)
+forked_none v w pid (Called.TrailFull back) stop top f = inl f.0.1
+forked_none v w pid (Called.SeqFull back) stop top f = inl (subst (λ (u : TaskValue). Stays v u) (sym f.0.1) (stays_self v top))
 
 module _ (s : Scripted) (l : ScriptLine) (ls : List ScriptLine) (v w : TaskValue) (x y : List AskedLine) where
   pub called_entry : (call : Call) (f : Called) (r : Entered) → IsCallOfLine s.labels s.names l call → is_fork call ≡ false
-      → f ≡ calls.Entry r → IsCalled v w call f → Ran false s (l ∷ ls) ls v w x x
+      → f ≡ Called.Entry r → IsCalled v w call f → Ran false s (l ∷ ls) ls v w x x
   called_entry call f r line plain e h =
       let h' : (v.made < most_calls) × Calls v w call r = subst (IsCalled v w call) e h in
       ran_entry s l ls v w x call r line plain h'.1
 
-  pub called_full : (call back : Call) (f : Called) → f ≡ calls.TrailFull back → IsCalled v w call f → Ran true s (l ∷ ls) ls v w x y
+  pub called_full : (call back : Call) (f : Called) → f ≡ Called.TrailFull back → IsCalled v w call f → Ran true s (l ∷ ls) ls v w x y
   called_full call back f e h =
       let h' : IsTrailFull v w × (back ≡ call) = subst (IsCalled v w call) e h in
       ran_stopped s (l ∷ ls) ls v w x y h'.0.1
 
-  pub called_seq : (call back : Call) (f : Called) → v.version ≤ length v.journal → f ≡ calls.SeqFull back → IsCalled v w call f
+  pub called_seq : (call back : Call) (f : Called) → v.version ≤ length v.journal → f ≡ Called.SeqFull back → IsCalled v w call f
       → Ran true s (l ∷ ls) ls v w x y
   called_seq call back f top e h =
       let h' : IsSeqFull v w × (back ≡ call) = subst (IsCalled v w call) e h in
       ran_unchanged s (l ∷ ls) ls v w x y top h'.0.1
 
-  module _ (file : List ℕ) (f : Written) (named : file ≡ word_in 1 l) (verb : verb_in l ≡ Some verbs.Write)
+  module _ (file : List ℕ) (f : Written) (named : file ≡ word_in 1 l) (verb : verb_in l ≡ Some Verb.Write)
       (top : v.version ≤ length v.journal) (h : IsWritten s.labels v w file l.text.bytes f) where
     is_written : (g : Written) → f ≡ g → IsWritten s.labels v w (word_in 1 l) l.text.bytes g
     is_written g e = subst (λ (z : List ℕ × Written). IsWritten s.labels v w z.0 l.text.bytes z.1) (λ i. (named i, e i)) h
 
-    pub written_batch : (version : ℕ) → IsSound v → f ≡ writes.Batch version → Ran false s (l ∷ ls) ls v w x x
-    written_batch version sound e = let h' = is_written (writes.Batch version) e in
+    pub written_batch : (version : ℕ) → IsSound v → f ≡ Written.Batch version → Ran false s (l ∷ ls) ls v w x x
+    written_batch version sound e = let h' = is_written (Written.Batch version) e in
         ran_batch s l ls v w x h'.1.0 version top sound (verb, h'.1.1) h'.1.2
 
-    pub written_entry : (r : Entered) → f ≡ writes.Entry r → Ran false s (l ∷ ls) ls v w x x
-    written_entry r e = let h' = is_written (writes.Entry r) e in ran_written s l ls v w x h'.1.0 r verb h'.1.1 h'.1.2
+    pub written_entry : (r : Entered) → f ≡ Written.Entry r → Ran false s (l ∷ ls) ls v w x x
+    written_entry r e = let h' = is_written (Written.Entry r) e in ran_written s l ls v w x h'.1.0 r verb h'.1.1 h'.1.2
 
-    pub written_refused : (b : Bool) (version : ℕ) (fault : Refusal) → IsSound v → f ≡ writes.Refused version fault
-        → OnFalse b (y ≡ x ++ line_of v version (Refused (word_in 1 l) fault) ∷ []) → Ran b s (l ∷ ls) ls v w x y
+    pub written_refused : (b : Bool) (version : ℕ) (fault : Refusal) → IsSound v → f ≡ Written.Refused version fault
+        → OnFalse b (y ≡ x ++ line_of v version (AskedWhat.Refused (word_in 1 l) fault) ∷ []) → Ran b s (l ∷ ls) ls v w x y
     written_refused b version fault sound e more =
-        ran_refused s l ls v w x y b version fault verb top sound (is_written (writes.Refused version fault) e).1 more
+        ran_refused s l ls v w x y b version fault verb top sound (is_written (Written.Refused version fault) e).1 more
 
-    pub written_full : f ≡ writes.TrailFull → Ran true s (l ∷ ls) ls v w x y
-    written_full e = ran_stopped s (l ∷ ls) ls v w x y (is_written writes.TrailFull e).0.1
+    pub written_full : f ≡ Written.TrailFull → Ran true s (l ∷ ls) ls v w x y
+    written_full e = ran_stopped s (l ∷ ls) ls v w x y (is_written Written.TrailFull e).0.1
 
-    pub written_seq : f ≡ writes.SeqFull → Ran true s (l ∷ ls) ls v w x y
-    written_seq e = ran_unchanged s (l ∷ ls) ls v w x y top (is_written writes.SeqFull e).1
+    pub written_seq : f ≡ Written.SeqFull → Ran true s (l ∷ ls) ls v w x y
+    written_seq e = ran_unchanged s (l ∷ ls) ls v w x y top (is_written Written.SeqFull e).1
 
   pub asked_verdict : (subject object : LabelId) (m : Modes) (f : Asked) (b : Bool) (version : ℕ) (verdict : Verdict)
-      → verb_in l ≡ Some verbs.Ask → id_of s.labels (word_in 1 l) ≡ Some subject → id_of s.labels (word_in 2 l) ≡ Some object
-      → modes_in (word_in 3 l) ≡ Some m → f ≡ asks.Verdict version verdict → IsAsked v w subject object m f
-      → OnFalse b (y ≡ x ++ line_of v version (Ask verdict) ∷ []) → Ran b s (l ∷ ls) ls v w x y
+      → verb_in l ≡ Some Verb.Ask → id_of s.labels (word_in 1 l) ≡ Some subject → id_of s.labels (word_in 2 l) ≡ Some object
+      → modes_in (word_in 3 l) ≡ Some m → f ≡ Asked.Verdict version verdict → IsAsked v w subject object m f
+      → OnFalse b (y ≡ x ++ line_of v version (AskedWhat.Ask verdict) ∷ []) → Ran b s (l ∷ ls) ls v w x y
   asked_verdict subject object m f b version verdict verb su ob mo e h more =
       let h' : (v.made < most_calls) × Answers v w version × (verdict ≡ verdict_of_cases (ruling w.journal) subject object m) =
       subst (IsAsked v w subject object m) e h in
       ran_asked s l ls v w x y b version subject object m verdict verb su ob mo h'.1 h'.2 more
 
-  pub asked_seq : (subject object : LabelId) (m : Modes) (f : Asked) → v.version ≤ length v.journal → f ≡ asks.SeqFull
+  pub asked_seq : (subject object : LabelId) (m : Modes) (f : Asked) → v.version ≤ length v.journal → f ≡ Asked.SeqFull
       → IsAsked v w subject object m f → Ran true s (l ∷ ls) ls v w x y
   asked_seq subject object m f top e h =
       let h' : IsSeqFull v w = subst (IsAsked v w subject object m) e h in ran_unchanged s (l ∷ ls) ls v w x y top h'.1
@@ -164,7 +164,7 @@ module _ (s : Scripted) (pid : ℕ) (u c w : TaskValue) (asked told after : List
       (λ no. subst (λ (z : Bool). Met s pid a b z u c w asked told after until to (until + 1)) (sym no.0)
       (met_stop s pid u c asked told after until to a b w (until + 1) (subst (Adopts u c) (sym no.1) d)))
       (λ one. met_wait s pid u c asked told after until to a b stop x w d one.0 on.0 on.1
-      (λ e. on_false stop one.1 e ∙ ap (λ (ls : List AskedLine). ls ++ record { task = x.number; seq = x.made + 1; version = x.version; what = Wait (record { 0 = pid }) } ∷ []) on.2) lt)
+      (λ e. on_false stop one.1 e ∙ ap (λ (ls : List AskedLine). ls ++ record { task = x.number; seq = x.made + 1; version = x.version; what = AskedWhat.Wait (record { 0 = pid }) } ∷ []) on.2) lt)
       waits
 
 -- a worker's loop: one more line

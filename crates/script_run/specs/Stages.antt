@@ -1,12 +1,12 @@
 use Rattle.std.specs.Prelude.{◌≡◌, ◌⊎◌, ◌+◌, ◌++◌, ◌∷◌, [], Bool, true, List, None, Result, Ok, Err}
 use Rattle.std.specs.Bool.{OnFalse}
 use Rattle.smack_base.specs.declared.ids.Pid.{Pid}
-use Rattle.world_spec.specs.declared.Call.TheVariants.{Task}
-use Rattle.world_spec.specs.declared.TaskCall.TheVariants.{Fork}
-use Rattle.world_spec.specs.declared.Reply.TheVariants.{Child}
+use Rattle.world_spec.specs.declared.Call.TheVariants as Call
+use Rattle.world_spec.specs.declared.TaskCall.TheVariants as TaskCall
+use Rattle.world_spec.specs.declared.Reply.TheVariants as Reply
 use Rattle.script_spec.specs.Lines.{ScriptLine}
 use Rattle.record_spec.specs.declared.AskedLine.{AskedLine}
-use Rattle.record_spec.specs.declared.AskedWhat.TheVariants.{Wait}
+use Rattle.record_spec.specs.declared.AskedWhat.TheVariants as AskedWhat
 use Rattle.smack_kernel.specs.Histories.{child_of}
 use Rattle.smack_kernel.specs.Tasks.{TaskValue, Stays, Calls, Starts}
 use Rattle.smack_kernel.specs.declared.turns.Entered.{Entered}
@@ -20,10 +20,10 @@ script_of told stage = record { labels = stage.kernel.now.labels; names = stage.
 
 -- what came of a fork: an entry and the child that it made; or no child, with an entry or with none
 abbrev pub IsForked : TaskValue → TaskValue → Pid → Result TaskValue Stop → Type 0
-IsForked v w pid (Ok c) = (r : Entered) × Calls v w (Task (Fork pid)) r × (r.reply ≡ Child c.number) × Starts w c c.number
-IsForked v w pid (Err stop) = Stays v w ⊎ ((r : Entered) × Calls v w (Task (Fork pid)) r × (child_of r.reply ≡ None))
+IsForked v w pid (Ok c) = (r : Entered) × Calls v w (Call.Task (TaskCall.Fork pid)) r × (r.reply ≡ Reply.Child c.number) × Starts w c c.number
+IsForked v w pid (Err stop) = Stays v w ⊎ ((r : Entered) × Calls v w (Call.Task (TaskCall.Fork pid)) r × (child_of r.reply ≡ None))
 
 -- what came of the line that waits for a child: it was counted and, where nothing stopped, is one line more; or nothing was done
 abbrev pub IsAwaited : TaskValue → TaskValue → Pid → Bool → List AskedLine → List AskedLine → Type 0
 IsAwaited v w child stop asked after = ((stop ≡ true) × (w ≡ v)) ⊎ ((w ≡ record v { made = v.made + 1 })
-    × OnFalse stop (after ≡ asked ++ record { task = v.number; seq = v.made + 1; version = v.version; what = Wait child } ∷ []))
+    × OnFalse stop (after ≡ asked ++ record { task = v.number; seq = v.made + 1; version = v.version; what = AskedWhat.Wait child } ∷ []))

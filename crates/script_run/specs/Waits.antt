@@ -1,7 +1,7 @@
 use Rattle.std.specs.Prelude.{◌≡◌, ◌⊎◌, ◌≤◌, ◌<◌, ◌+◌, ℕ, Bool, if◌then◌else◌, List, [], ◌∷◌, Some, codes}
 use Rattle.std.specs.List.{AllByRecursion}
 use Rattle.std.specs.Str.{bytes_eq}
-use Rattle.script_spec.specs.declared.Verb.TheVariants.{Wait}
+use Rattle.script_spec.specs.declared.Verb.TheVariants as Verb
 use Rattle.script_spec.specs.Lines.{ScriptLine, word_in, verb_in}
 
 -- the verb of a line is that of waiting for a task
@@ -19,4 +19,4 @@ AreOutside from to places = AllByRecursion (λ p. (p < from) ⊎ (to ≤ p)) pla
 
 -- none of these lines waits for a task
 abbrev pub AreNoWaits : List ScriptLine → Type 0
-AreNoWaits lines = AllByRecursion (λ l. verb_in l ≡ Some Wait → ⊥) lines
+AreNoWaits lines = AllByRecursion (λ l. verb_in l ≡ Some Verb.Wait → ⊥) lines

@@ -2,15 +2,13 @@ ghost use Rattle.std.specs.Prelude.{◌≡◌, ◌≤◌, ◌<◌, ◌+◌, [], 
 ghost use Rattle.std.specs.Bool.{OnFalse};
 ghost use Rattle.smack_base.specs.declared.ids.Pid.{Pid};
 ghost use Rattle.script_spec.specs.Lines.{ScriptLine, word_in, verb_in};
-ghost use Rattle.script_spec.specs.declared.Verb.TheVariants as verbs;
+ghost use Rattle.script_spec.specs.declared.Verb.TheVariants as Verb;
 ghost use Rattle.script_text.specs.Lines.{call_seen};
 ghost use Rattle.smack_kernel.specs.Tasks.{most_calls};
 ghost use Rattle.task_runs.specs.Runs.{Ran};
 ghost use Rattle.script_acts.specs.Acts.{IsAct};
 ghost use Rattle.script_run.specs.Stages.{script_of};
 ghost use Rattle.script_run.specs.Stops.{IsCause};
-ghost use Rattle.script_run.specs.declared.making.Stop.TheVariants as stops;
-ghost use Rattle.script_acts.specs.declared.acts.Act.TheVariants as acts;
 
 use crate::stage::{ScriptLines, Stage};
 use asked_lines::{AskedBlocks, AskedLine, AskedWhat};
@@ -45,7 +43,7 @@ pub enum Stop {
 /// One more line that is neither a batch nor an object call.
 pub fn note(asked: &mut AskedBlocks, line: AskedLine) -> Option<Stop>
     ensures line { OnFalse (is_some result) (asked.new ≡ asked.old ++ line ∷ []) }
-    ensures stop { IfSome result (λ stop. stop ≡ stops.Memory) }
+    ensures stop { IfSome result (λ stop. stop ≡ Stop.Memory) }
 {
     match asked.push(line) {
         Ok(()) => None,
@@ -65,7 +63,7 @@ fn ask_line<S: ScriptLines, L: Ledger>(
 ) -> Option<Stop>
     requires table { task.old.table ≡ stage.kernel.now.table }
     requires top { task.old.version ≤ length task.old.journal }
-    requires act { IsAct stage.kernel.now.labels stage.names.now (call_seen line.now) (acts.Ask question.0 question.1 question.2) }
+    requires act { IsAct stage.kernel.now.labels stage.names.now (call_seen line.now) (Act.Ask question.0 question.1 question.2) }
     ensures ran { (ls : List ScriptLine) → Ran (is_some result) (script_of S.told stage.entry) (call_seen line.now ∷ ls) ls task.old task.new asked.old asked.new }
     ensures cause { (ls : List ScriptLine) → IfSome result (IsCause (script_of S.told stage.entry) (call_seen line.now ∷ ls) task.old task.new) }
 {
@@ -96,7 +94,7 @@ fn refuse(
     fault: Refusal,
 ) -> Option<Stop>
     ensures line { OnFalse (is_some result) (asked.new ≡ asked.old ++ record { task = call.0; seq = call.1; version = call.2; what = AskedWhat.Refused (word_in 1 (call_seen line.now)) fault } ∷ []) }
-    ensures stop { IfSome result (λ stop. stop ≡ stops.Memory) }
+    ensures stop { IfSome result (λ stop. stop ≡ Stop.Memory) }
 {
     let (task, seq, version) = call;
     let Ok(file) = Bytes::from_slice(alloc, words_of(line).one) else {
@@ -125,7 +123,7 @@ fn write_line<R: Wait, S: ScriptLines, L: Ledger>(
 ) -> Option<Stop>
     requires table { task.old.table ≡ stage.kernel.now.table }
     requires top { task.old.version ≤ length task.old.journal }
-    requires act { verb_in (call_seen line.now) ≡ Some verbs.Write }
+    requires act { verb_in (call_seen line.now) ≡ Some Verb.Write }
     ensures ran { (ls : List ScriptLine) → Ran (is_some result) (script_of S.told stage.entry) (call_seen line.now ∷ ls) ls task.old task.new asked.old asked.new }
     ensures cause { (ls : List ScriptLine) → IfSome result (IsCause (script_of S.told stage.entry) (call_seen line.now ∷ ls) task.old task.new) }
 {
@@ -160,7 +158,7 @@ fn make_line<R: Wait, S: ScriptLines, L: Ledger>(
 ) -> Option<Stop>
     requires table { task.old.table ≡ stage.kernel.now.table }
     requires top { task.old.version ≤ length task.old.journal }
-    requires act { IsAct stage.kernel.now.labels stage.names.now (call_seen line.now) (acts.Make call) }
+    requires act { IsAct stage.kernel.now.labels stage.names.now (call_seen line.now) (Act.Make call) }
     ensures ran { (ls : List ScriptLine) → Ran (is_some result) (script_of S.told stage.entry) (call_seen line.now ∷ ls) ls task.old task.new asked.old asked.new }
     ensures cause { (ls : List ScriptLine) → IfSome result (IsCause (script_of S.told stage.entry) (call_seen line.now ∷ ls) task.old task.new) }
 {
@@ -187,7 +185,7 @@ fn line_by<R: Wait, S: ScriptLines, L: Ledger>(
     requires table { task.old.table ≡ stage.kernel.now.table }
     requires top { task.old.version ≤ length task.old.journal }
     requires act { IsAct stage.kernel.now.labels stage.names.now (call_seen line.now) act }
-    requires plain { (pid : Pid) → act ≡ acts.Fork pid → ⊥ }
+    requires plain { (pid : Pid) → act ≡ Act.Fork pid → ⊥ }
     ensures ran { (ls : List ScriptLine) → Ran (is_some result) (script_of S.told stage.entry) (call_seen line.now ∷ ls) ls task.old task.new asked.old asked.new }
     ensures cause { (ls : List ScriptLine) → IfSome result (IsCause (script_of S.told stage.entry) (call_seen line.now ∷ ls) task.old task.new) }
 {
@@ -214,7 +212,7 @@ pub fn plain_line<R: Wait, S: ScriptLines>(
     requires table { task.old.table ≡ stage.kernel.now.table }
     requires top { task.old.version ≤ length task.old.journal }
     requires act { IsAct stage.kernel.now.labels stage.names.now (call_seen line.now) act }
-    requires plain { (pid : Pid) → act ≡ acts.Fork pid → ⊥ }
+    requires plain { (pid : Pid) → act ≡ Act.Fork pid → ⊥ }
     ensures ran { (ls : List ScriptLine) → Ran (is_some result) (script_of S.told stage.entry) (call_seen line.now ∷ ls) ls task.old task.new asked.old asked.new }
     ensures cause { (ls : List ScriptLine) → IfSome result (IsCause (script_of S.told stage.entry) (call_seen line.now ∷ ls) task.old task.new) }
 {

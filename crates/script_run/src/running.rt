@@ -4,7 +4,6 @@ ghost use Rattle.replay_spec.specs.Plain.{IsPlain};
 ghost use Rattle.legal_spec.specs.Fits.{IsLegalFor};
 ghost use Rattle.legal_runs.specs.Laws.{run_record};
 ghost use Rattle.script_run.specs.Closings.{HasRun};
-ghost use Rattle.script_run.specs.declared.making.Stop.TheVariants as stops;
 
 use crate::making::Stop;
 use crate::workers::{Worked, work};
@@ -36,7 +35,7 @@ fn close_run<R: Threads + Wait + Sync, G: Gate + Sync>(
     gate: &G,
 ) -> Result<(Closed, AskedBlocks), Stop>
     ensures has_run { IfOk result (λ r. HasRun script.now r.0 r.1) }
-    ensures stop { IfErr result (λ stop. stop ≡ stops.Memory) }
+    ensures stop { IfErr result (λ stop. stop ≡ Stop.Memory) }
 {
     let Ok(labels) = script.labels() else {
         return Err(Stop::Memory);

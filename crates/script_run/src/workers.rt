@@ -12,8 +12,6 @@ ghost use Rattle.script_acts.specs.Acts.{IsAct};
 ghost use Rattle.script_run.specs.Shared.{script_in};
 ghost use Rattle.script_run.specs.Stages.{script_of, IsForked, IsAwaited};
 ghost use Rattle.script_run.specs.Stops.{IsCause, IsForkCause, IsOwnStop, IsMeetCause, without_child};
-ghost use Rattle.script_run.specs.declared.making.Stop.TheVariants as stops;
-ghost use Rattle.script_acts.specs.declared.acts.Act.TheVariants as acts;
 
 use crate::making::{Stop, note, plain_line};
 use crate::stage::{PlacedLines, ScriptLines, Stage, count, next_line, wait_place};
@@ -107,7 +105,7 @@ fn gather(
     failed: Option<Stop>,
 ) -> Option<Stop>
     ensures asked { OnFalse (is_some result) ((is_some stop ≡ false) × (is_some failed ≡ false) × (asked.new ≡ asked.old ++ more)) }
-    ensures cause { IfSome result (λ why. (stop ≡ Some why) ⊎ ((failed ≡ Some why) ⊎ (why ≡ stops.Memory))) }
+    ensures cause { IfSome result (λ why. (stop ≡ Some why) ⊎ ((failed ≡ Some why) ⊎ (why ≡ Stop.Memory))) }
 {
     if stop.is_some() {
         return stop;
@@ -195,7 +193,7 @@ fn plain_step<R: Wait, S: ScriptLines>(
     requires table { task.table ≡ stage.kernel.now.table }
     requires top { task.version ≤ length task.journal }
     requires act { IsAct stage.kernel.now.labels stage.names.now (call_seen line.now) act }
-    requires plain { (pid : Pid) → act ≡ acts.Fork pid → ⊥ }
+    requires plain { (pid : Pid) → act ≡ Act.Fork pid → ⊥ }
     ensures ran { (ls : List ScriptLine) → Ran (is_some result.worked.stop) (script_of S.told stage.entry) (call_seen line.now ∷ ls) ls task result.worked.task asked result.worked.asked }
     ensures cause { (ls : List ScriptLine) → IfSome result.worked.stop (IsCause (script_of S.told stage.entry) (call_seen line.now ∷ ls) task result.worked.task) }
     ensures at { result.at ≡ at }

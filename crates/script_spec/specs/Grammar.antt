@@ -2,10 +2,10 @@ use Rattle.std.specs.Prelude.{ℕ, ◌+◌, ◌-◌, Bool, true, false, ◌||◌
 use Rattle.std.specs.Option.{option_map}
 use Rattle.text_spec.specs.Texts.{Placed, TextLine, lines_from, words_from, whole_line, whole_lines, is_space}
 use Rattle.script_spec.specs.declared.Verb.{Verb}
-use Rattle.script_spec.specs.declared.Verb.TheVariants.{Write, Ask, Wait, Task as OfTask, Tree as OfTree}
-use Rattle.script_spec.specs.declared.What.TheVariants.{Bytes, Lines, Tasks as ManyTasks, Text as LongText, Rows, Labels}
+use Rattle.script_spec.specs.declared.Verb.TheVariants as Verb
+use Rattle.script_spec.specs.declared.What.TheVariants as What
 use Rattle.script_spec.specs.declared.ScriptFault.{ScriptFault}
-use Rattle.script_spec.specs.declared.ScriptFault.TheVariants.{Malformed, TooLarge}
+use Rattle.script_spec.specs.declared.ScriptFault.TheVariants as ScriptFault
 use Rattle.script_spec.specs.Words.{verb_of, number_of, word_at}
 use Rattle.script_spec.specs.Lines.{ScriptLine, table_of, rows_in}
 use Rattle.script_spec.specs.Tasks.{Tasks, tasks_of, task_names, pid_of}
@@ -54,11 +54,11 @@ or_zero (Some n) = n
 
 abbrev pub text_count_of : Option Verb → Placed → ℕ
 text_count_of None count = 0
-text_count_of (Some Write) count = or_zero (number_of count.bytes)
-text_count_of (Some Ask) count = 0
-text_count_of (Some Wait) count = 0
-text_count_of (Some (OfTask verb)) count = 0
-text_count_of (Some (OfTree verb)) count = 0
+text_count_of (Some Verb.Write) count = or_zero (number_of count.bytes)
+text_count_of (Some Verb.Ask) count = 0
+text_count_of (Some Verb.Wait) count = 0
+text_count_of (Some (Verb.Task verb)) count = 0
+text_count_of (Some (Verb.Tree verb)) count = 0
 
 -- how many of the lines behind a line of these words are its text
 abbrev pub text_count : List Placed → ℕ
@@ -122,16 +122,16 @@ first_of (Some f ∷ more) = Some f
 
 -- the limits: the tasks of a script, the bytes of a text, the rows of a journal, the labels of a script
 abbrev pub tasks_fault : List (List ℕ) → Option ScriptFault
-tasks_fault names = fault_if (nat_lt most_tasks (length names)) (TooLarge ManyTasks)
+tasks_fault names = fault_if (nat_lt most_tasks (length names)) (ScriptFault.TooLarge What.Tasks)
 
 abbrev pub text_fault : ScriptLine → Option ScriptFault
-text_fault l = fault_if (nat_lt most_text (length l.text.bytes)) (TooLarge LongText)
+text_fault l = fault_if (nat_lt most_text (length l.text.bytes)) (ScriptFault.TooLarge What.Text)
 
 abbrev pub rows_fault : ℕ → Option ScriptFault
-rows_fault rows = fault_if (nat_lt most_rows rows) (TooLarge Rows)
+rows_fault rows = fault_if (nat_lt most_rows rows) (ScriptFault.TooLarge What.Rows)
 
 abbrev pub labels_fault : List (List ℕ) → Option ScriptFault
-labels_fault table = fault_if (nat_lt most_labels (length table)) (TooLarge Labels)
+labels_fault table = fault_if (nat_lt most_labels (length table)) (ScriptFault.TooLarge What.Labels)
 
 -- which of the limits calls exceed of which this is the last
 abbrev pub limit_faults : List ScriptLine → ScriptLine → List (Option ScriptFault)
@@ -142,8 +142,8 @@ limit_faults lines last =
 abbrev pub item_fault : List ScriptLine → Item → Option ScriptFault
 item_fault above i = let call = call_of above i in
     first_of
-    (fault_if (nat_lt most_lines i.line) (TooLarge Lines)
-    ∷ option_map (λ cause. Malformed i.line cause) (line_cause (tasks_of above) i.words (has_text i))
+    (fault_if (nat_lt most_lines i.line) (ScriptFault.TooLarge What.Lines)
+    ∷ option_map (λ cause. ScriptFault.Malformed i.line cause) (line_cause (tasks_of above) i.words (has_text i))
     ∷ limit_faults (above ++ call ∷ []) call)
 
 abbrev pub unless_fault : Option ScriptFault → Result (List ScriptLine) ScriptFault → Result (List ScriptLine) ScriptFault
@@ -158,11 +158,11 @@ calls_of behind above (i ∷ is) =
 
 -- lines are too many, whatever stands in the last of them
 abbrev pub lines_fault : List TextLine → Option ScriptFault
-lines_fault lines = fault_if (nat_lt most_lines (length lines)) (TooLarge Lines)
+lines_fault lines = fault_if (nat_lt most_lines (length lines)) (ScriptFault.TooLarge What.Lines)
 
 abbrev pub script_of : List TextLine → Result (List ScriptLine) ScriptFault
 script_of lines = calls_of (lines_fault lines) [] (items 1 0 lines)
 
 -- the script that these bytes are, or the first line that breaks the grammar or a limit
 abbrev pub parse : List ℕ → Result (List ScriptLine) ScriptFault
-parse bytes = if nat_lt most_bytes (length bytes) then Err (TooLarge Bytes) else script_of (lines_from 0 bytes)
+parse bytes = if nat_lt most_bytes (length bytes) then Err (ScriptFault.TooLarge What.Bytes) else script_of (lines_from 0 bytes)

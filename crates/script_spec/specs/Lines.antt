@@ -4,9 +4,9 @@ use Rattle.text_spec.specs.Texts.{Placed}
 use Rattle.text_spec.specs.Names.{predefined, with_names}
 use Rattle.file_spec.specs.Writes.{file_of, names_of_text, rows_of_text}
 use Rattle.script_spec.specs.declared.Verb.{Verb}
-use Rattle.script_spec.specs.declared.Verb.TheVariants.{Write, Ask, Wait, Task, Tree}
+use Rattle.script_spec.specs.declared.Verb.TheVariants as Verb
 use Rattle.script_spec.specs.declared.WordKind.{WordKind}
-use Rattle.script_spec.specs.declared.WordKind.TheVariants.{Label, Modes, File, Number, Path, Capability, TaskName, Signal, Way}
+use Rattle.script_spec.specs.declared.WordKind.TheVariants as WordKind
 use Rattle.script_spec.specs.Words.{verb_of, kinds_of, word_at}
 
 -- A call of a script: the pid of its task, its number among the calls of the task, from 1, the number of its line, from
@@ -26,15 +26,15 @@ abbrev pub verb_in : ScriptLine → Option Verb
 verb_in l = verb_of (word_in 0 l)
 
 abbrev pub stands_for_label : WordKind → Bool
-stands_for_label Label = true
-stands_for_label Modes = false
-stands_for_label File = false
-stands_for_label Number = false
-stands_for_label Path = false
-stands_for_label Capability = false
-stands_for_label TaskName = false
-stands_for_label Signal = false
-stands_for_label Way = false
+stands_for_label WordKind.Label = true
+stands_for_label WordKind.Modes = false
+stands_for_label WordKind.File = false
+stands_for_label WordKind.Number = false
+stands_for_label WordKind.Path = false
+stands_for_label WordKind.Capability = false
+stands_for_label WordKind.TaskName = false
+stands_for_label WordKind.Signal = false
+stands_for_label WordKind.Way = false
 
 -- the words that stand for labels, by the kinds of the words
 abbrev pub label_words : List WordKind → List Placed → List (List ℕ)
@@ -44,11 +44,11 @@ label_words (k ∷ ks) (w ∷ ws) = if stands_for_label k then w.bytes ∷ label
 
 -- the labels of the text of a call, where its file accepts it whole
 abbrev pub text_labels : Verb → ScriptLine → List (List ℕ)
-text_labels Write l = names_of_text (file_of (word_in 1 l)) l.text.bytes
-text_labels Ask l = []
-text_labels Wait l = []
-text_labels (Task verb) l = []
-text_labels (Tree verb) l = []
+text_labels Verb.Write l = names_of_text (file_of (word_in 1 l)) l.text.bytes
+text_labels Verb.Ask l = []
+text_labels Verb.Wait l = []
+text_labels (Verb.Task verb) l = []
+text_labels (Verb.Tree verb) l = []
 
 abbrev pub labels_by : Option Verb → ScriptLine → List (List ℕ)
 labels_by None l = []
@@ -64,11 +64,11 @@ table_of lines = with_names predefined (flat_map labels_of lines)
 
 abbrev pub rows_by : Option Verb → ScriptLine → ℕ
 rows_by None l = 0
-rows_by (Some Write) l = rows_of_text (file_of (word_in 1 l)) l.text.bytes
-rows_by (Some Ask) l = 0
-rows_by (Some Wait) l = 0
-rows_by (Some (Task verb)) l = 0
-rows_by (Some (Tree verb)) l = 0
+rows_by (Some Verb.Write) l = rows_of_text (file_of (word_in 1 l)) l.text.bytes
+rows_by (Some Verb.Ask) l = 0
+rows_by (Some Verb.Wait) l = 0
+rows_by (Some (Verb.Task verb)) l = 0
+rows_by (Some (Verb.Tree verb)) l = 0
 
 -- the rows of a journal that a call takes
 abbrev pub rows_of : ScriptLine → ℕ

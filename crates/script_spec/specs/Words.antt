@@ -4,21 +4,21 @@ use Rattle.std.specs.Map.{lookup}
 use Rattle.std.specs.Option.{option_map, option_or}
 use Rattle.std.specs.Str.{bytes_eq}
 use Rattle.smack_base.specs.declared.cap.Cap.{Cap}
-use Rattle.smack_base.specs.declared.cap.Cap.TheVariants.{MacAdmin, MacOverride, SysPtrace}
+use Rattle.smack_base.specs.declared.cap.Cap.TheVariants as Cap
 use Rattle.smack_base.specs.Labels.{is_label}
 use Rattle.smack_base.specs.Modes.{is_modes}
 use Rattle.smack_base.specs.Paths.{path_of, is_slash, is_name_byte}
 use Rattle.text_spec.specs.Texts.{Placed}
 use Rattle.script_spec.specs.declared.TaskVerb.{TaskVerb}
-use Rattle.script_spec.specs.declared.TaskVerb.TheVariants.{Fork, Exit, Relabel, Drop, Kill, Take, Trace}
+use Rattle.script_spec.specs.declared.TaskVerb.TheVariants as TaskVerb
 use Rattle.script_spec.specs.declared.TreeVerb.{TreeVerb}
-use Rattle.script_spec.specs.declared.TreeVerb.TheVariants.{Create, Unlink, List as ListNames}
+use Rattle.script_spec.specs.declared.TreeVerb.TheVariants as TreeVerb
 use Rattle.script_spec.specs.declared.Verb.{Verb}
-use Rattle.script_spec.specs.declared.Verb.TheVariants.{Write, Ask, Wait, Task, Tree}
+use Rattle.script_spec.specs.declared.Verb.TheVariants as Verb
 use Rattle.script_spec.specs.declared.TraceWay.{TraceWay}
-use Rattle.script_spec.specs.declared.TraceWay.TheVariants.{Read, Attach}
+use Rattle.script_spec.specs.declared.TraceWay.TheVariants as TraceWay
 use Rattle.script_spec.specs.declared.WordKind.{WordKind}
-use Rattle.script_spec.specs.declared.WordKind.TheVariants.{Label, Modes, File, Number, Path, Capability, TaskName, Signal, Way}
+use Rattle.script_spec.specs.declared.WordKind.TheVariants as WordKind
 
 abbrev pub is_digit : ℕ → Bool
 is_digit b = nat_le 48 b && nat_le b 57
@@ -43,21 +43,21 @@ number_of word = if is_decimal word && nat_lt (value_from 0 word) 4294967296 the
 
 -- the verbs by name, by families
 abbrev pub plain_verbs : List (List ℕ × Verb)
-plain_verbs = (codes "write", Write) ∷ (codes "ask", Ask) ∷ (codes "wait", Wait) ∷ []
+plain_verbs = (codes "write", Verb.Write) ∷ (codes "ask", Verb.Ask) ∷ (codes "wait", Verb.Wait) ∷ []
 
 abbrev pub task_verbs : List (List ℕ × TaskVerb)
 task_verbs =
-    (codes "fork", Fork)
-    ∷ (codes "exit", Exit)
-    ∷ (codes "relabel", Relabel)
-    ∷ (codes "drop", Drop)
-    ∷ (codes "kill", Kill)
-    ∷ (codes "take", Take)
-    ∷ (codes "trace", Trace)
+    (codes "fork", TaskVerb.Fork)
+    ∷ (codes "exit", TaskVerb.Exit)
+    ∷ (codes "relabel", TaskVerb.Relabel)
+    ∷ (codes "drop", TaskVerb.Drop)
+    ∷ (codes "kill", TaskVerb.Kill)
+    ∷ (codes "take", TaskVerb.Take)
+    ∷ (codes "trace", TaskVerb.Trace)
     ∷ []
 
 abbrev pub tree_verbs : List (List ℕ × TreeVerb)
-tree_verbs = (codes "create", Create) ∷ (codes "unlink", Unlink) ∷ (codes "list", ListNames) ∷ []
+tree_verbs = (codes "create", TreeVerb.Create) ∷ (codes "unlink", TreeVerb.Unlink) ∷ (codes "list", TreeVerb.List) ∷ []
 
 abbrev pub plain_verb_of : List ℕ → Option Verb
 plain_verb_of name = lookup (bytes_eq name) plain_verbs
@@ -72,7 +72,7 @@ tree_verb_of name = lookup (bytes_eq name) tree_verbs
 abbrev pub verb_of : List ℕ → Option Verb
 verb_of name =
     option_or (plain_verb_of name)
-    (option_or (option_map (λ verb. Task verb) (task_verb_of name)) (option_map (λ verb. Tree verb) (tree_verb_of name)))
+    (option_or (option_map (λ verb. Verb.Task verb) (task_verb_of name)) (option_map (λ verb. Verb.Tree verb) (tree_verb_of name)))
 
 abbrev pub is_one_of : List (List ℕ) → List ℕ → Bool
 is_one_of names name = list_any (bytes_eq name) names
@@ -128,32 +128,32 @@ is_unbuilt_file name = is_one_of unbuilt_files name
 
 -- the words behind each verb
 abbrev pub task_kinds : TaskVerb → List WordKind
-task_kinds Fork = TaskName ∷ []
-task_kinds Exit = []
-task_kinds Relabel = Label ∷ []
-task_kinds Drop = Capability ∷ []
-task_kinds Kill = TaskName ∷ Signal ∷ []
-task_kinds Take = []
-task_kinds Trace = Way ∷ TaskName ∷ []
+task_kinds TaskVerb.Fork = WordKind.TaskName ∷ []
+task_kinds TaskVerb.Exit = []
+task_kinds TaskVerb.Relabel = WordKind.Label ∷ []
+task_kinds TaskVerb.Drop = WordKind.Capability ∷ []
+task_kinds TaskVerb.Kill = WordKind.TaskName ∷ WordKind.Signal ∷ []
+task_kinds TaskVerb.Take = []
+task_kinds TaskVerb.Trace = WordKind.Way ∷ WordKind.TaskName ∷ []
 
 abbrev pub tree_kinds : TreeVerb → List WordKind
-tree_kinds Create = Path ∷ []
-tree_kinds Unlink = Path ∷ []
-tree_kinds ListNames = Path ∷ Number ∷ []
+tree_kinds TreeVerb.Create = WordKind.Path ∷ []
+tree_kinds TreeVerb.Unlink = WordKind.Path ∷ []
+tree_kinds TreeVerb.List = WordKind.Path ∷ WordKind.Number ∷ []
 
 abbrev pub kinds_of : Verb → List WordKind
-kinds_of Write = File ∷ Number ∷ []
-kinds_of Ask = Label ∷ Label ∷ Modes ∷ []
-kinds_of Wait = TaskName ∷ []
-kinds_of (Task verb) = task_kinds verb
-kinds_of (Tree verb) = tree_kinds verb
+kinds_of Verb.Write = WordKind.File ∷ WordKind.Number ∷ []
+kinds_of Verb.Ask = WordKind.Label ∷ WordKind.Label ∷ WordKind.Modes ∷ []
+kinds_of Verb.Wait = WordKind.TaskName ∷ []
+kinds_of (Verb.Task verb) = task_kinds verb
+kinds_of (Verb.Tree verb) = tree_kinds verb
 
 -- the capabilities by name
 abbrev pub capabilities : List (List ℕ × Cap)
 capabilities =
-    (codes "mac-admin", MacAdmin)
-    ∷ (codes "mac-override", MacOverride)
-    ∷ (codes "sys-ptrace", SysPtrace)
+    (codes "mac-admin", Cap.MacAdmin)
+    ∷ (codes "mac-override", Cap.MacOverride)
+    ∷ (codes "sys-ptrace", Cap.SysPtrace)
     ∷ []
 
 abbrev pub cap_of : List ℕ → Option Cap
@@ -161,7 +161,7 @@ cap_of name = lookup (bytes_eq name) capabilities
 
 -- the ways of tracing by name
 abbrev pub trace_ways : List (List ℕ × TraceWay)
-trace_ways = (codes "read", Read) ∷ (codes "attach", Attach) ∷ []
+trace_ways = (codes "read", TraceWay.Read) ∷ (codes "attach", TraceWay.Attach) ∷ []
 
 abbrev pub trace_way_of : List ℕ → Option TraceWay
 trace_way_of name = lookup (bytes_eq name) trace_ways
@@ -203,15 +203,15 @@ is_way before word = bytes_eq (word_at 0 before).bytes (codes "trace") && is_som
 
 -- whether a word is of a kind, behind the words from the verb on that stand before it
 abbrev pub is_of_kind : WordKind → List Placed → List ℕ → Bool
-is_of_kind Label before word = is_label word
-is_of_kind Modes before word = is_modes word
-is_of_kind File before word = is_file_name word
-is_of_kind Number before word = is_some (number_of word)
-is_of_kind Path before word = is_ok (path_of word)
-is_of_kind Capability before word = is_some (cap_of word)
-is_of_kind TaskName before word = is_task_name word
-is_of_kind Signal before word = is_some (signal_of word)
-is_of_kind Way before word = is_way before word
+is_of_kind WordKind.Label before word = is_label word
+is_of_kind WordKind.Modes before word = is_modes word
+is_of_kind WordKind.File before word = is_file_name word
+is_of_kind WordKind.Number before word = is_some (number_of word)
+is_of_kind WordKind.Path before word = is_ok (path_of word)
+is_of_kind WordKind.Capability before word = is_some (cap_of word)
+is_of_kind WordKind.TaskName before word = is_task_name word
+is_of_kind WordKind.Signal before word = is_some (signal_of word)
+is_of_kind WordKind.Way before word = is_way before word
 
 -- The number in the line of the first word that is not of its kind, behind the words from the verb on. The verb is the
 -- second word of a line.
@@ -222,15 +222,15 @@ bad_word before (d ∷ ds) (w ∷ ws) =
     if is_of_kind d before w.bytes then bad_word (before ++ w ∷ []) ds ws else Some (length before + 2)
 
 abbrev pub is_deep_path : WordKind → List ℕ → Bool
-is_deep_path Label word = false
-is_deep_path Modes word = false
-is_deep_path File word = false
-is_deep_path Number word = false
-is_deep_path Path word = is_deep word
-is_deep_path Capability word = false
-is_deep_path TaskName word = false
-is_deep_path Signal word = false
-is_deep_path Way word = false
+is_deep_path WordKind.Label word = false
+is_deep_path WordKind.Modes word = false
+is_deep_path WordKind.File word = false
+is_deep_path WordKind.Number word = false
+is_deep_path WordKind.Path word = is_deep word
+is_deep_path WordKind.Capability word = false
+is_deep_path WordKind.TaskName word = false
+is_deep_path WordKind.Signal word = false
+is_deep_path WordKind.Way word = false
 
 -- whether one of the words that stand for paths has more than one name
 abbrev pub has_deep_path : List WordKind → List Placed → Bool

@@ -9,7 +9,7 @@ use Rattle.text_spec.specs.Names.{with_name, with_names}
 use Rattle.rule_text.specs.declared.part.Part.{Part}
 use Rattle.rule_text.specs.Parts.{placed}
 use Rattle.script_spec.specs.declared.WordKind.{WordKind}
-use Rattle.script_spec.specs.declared.WordKind.TheVariants.{Label, Modes, File, Number, Path, Capability, TaskName, Signal, Way}
+use Rattle.script_spec.specs.declared.WordKind.TheVariants as WordKind
 use Rattle.script_spec.specs.Words.{bad_word, is_of_kind}
 use Rattle.script_spec.specs.Lines.{label_words, stands_for_label}
 use Rattle.script_text.specs.Spelled.{AreLabels}
@@ -107,14 +107,14 @@ pub label_words_good : (before : List Placed) (ks : List WordKind) (ws : List Pl
     → AreLabels (label_words ks ws)
 label_words_good before [] ws e = refl
 label_words_good before (k ∷ ks) [] e = refl
-label_words_good before (Label ∷ ks) (w ∷ ws) e =
-    let good = kind_good before Label w ks ws e in
+label_words_good before (WordKind.Label ∷ ks) (w ∷ ws) e =
+    let good = kind_good before WordKind.Label w ks ws e in
     rw (good.0) (label_words_good (before ++ w ∷ []) ks ws (good.1))
-label_words_good before (Modes ∷ ks) (w ∷ ws) e = label_words_good (before ++ w ∷ []) ks ws (kind_good before Modes w ks ws e).1
-label_words_good before (File ∷ ks) (w ∷ ws) e = label_words_good (before ++ w ∷ []) ks ws (kind_good before File w ks ws e).1
-label_words_good before (Number ∷ ks) (w ∷ ws) e = label_words_good (before ++ w ∷ []) ks ws (kind_good before Number w ks ws e).1
-label_words_good before (Path ∷ ks) (w ∷ ws) e = label_words_good (before ++ w ∷ []) ks ws (kind_good before Path w ks ws e).1
-label_words_good before (Capability ∷ ks) (w ∷ ws) e = label_words_good (before ++ w ∷ []) ks ws (kind_good before Capability w ks ws e).1
-label_words_good before (TaskName ∷ ks) (w ∷ ws) e = label_words_good (before ++ w ∷ []) ks ws (kind_good before TaskName w ks ws e).1
-label_words_good before (Signal ∷ ks) (w ∷ ws) e = label_words_good (before ++ w ∷ []) ks ws (kind_good before Signal w ks ws e).1
-label_words_good before (Way ∷ ks) (w ∷ ws) e = label_words_good (before ++ w ∷ []) ks ws (kind_good before Way w ks ws e).1
+label_words_good before (WordKind.Modes ∷ ks) (w ∷ ws) e = label_words_good (before ++ w ∷ []) ks ws (kind_good before WordKind.Modes w ks ws e).1
+label_words_good before (WordKind.File ∷ ks) (w ∷ ws) e = label_words_good (before ++ w ∷ []) ks ws (kind_good before WordKind.File w ks ws e).1
+label_words_good before (WordKind.Number ∷ ks) (w ∷ ws) e = label_words_good (before ++ w ∷ []) ks ws (kind_good before WordKind.Number w ks ws e).1
+label_words_good before (WordKind.Path ∷ ks) (w ∷ ws) e = label_words_good (before ++ w ∷ []) ks ws (kind_good before WordKind.Path w ks ws e).1
+label_words_good before (WordKind.Capability ∷ ks) (w ∷ ws) e = label_words_good (before ++ w ∷ []) ks ws (kind_good before WordKind.Capability w ks ws e).1
+label_words_good before (WordKind.TaskName ∷ ks) (w ∷ ws) e = label_words_good (before ++ w ∷ []) ks ws (kind_good before WordKind.TaskName w ks ws e).1
+label_words_good before (WordKind.Signal ∷ ks) (w ∷ ws) e = label_words_good (before ++ w ∷ []) ks ws (kind_good before WordKind.Signal w ks ws e).1
+label_words_good before (WordKind.Way ∷ ks) (w ∷ ws) e = label_words_good (before ++ w ∷ []) ks ws (kind_good before WordKind.Way w ks ws e).1

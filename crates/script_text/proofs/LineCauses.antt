@@ -6,7 +6,7 @@ use Rattle.text_spec.specs.Texts.{Placed}
 use Rattle.rule_text.specs.declared.part.Part.{Part}
 use Rattle.rule_text.specs.Parts.{placed}
 use Rattle.script_spec.specs.declared.Cause.{Cause}
-use Rattle.script_spec.specs.declared.Cause.TheVariants.{Task, Verb as NoVerb, Words, Word, Text, Name, Wait, NotBuilt}
+use Rattle.script_spec.specs.declared.Cause.TheVariants as Cause
 use Rattle.script_spec.specs.declared.Verb.{Verb}
 use Rattle.script_spec.specs.Words.{verb_of, kinds_of, bad_word, has_deep_path, is_task_name, word_at}
 use Rattle.script_spec.specs.Tasks.{Tasks, is_live, pid_of}
@@ -20,8 +20,8 @@ some_none c e = cc
 abbrev causes_of : Bool → Bool → Option ℕ → Bool → Bool → Bool → Bool → Bool → Option Cause
 causes_of file count word deep text live name wait =
     first_cause
-    (cause_if file NotBuilt ∷ cause_if count Words ∷ option_map (λ k. Word k) word ∷ cause_if deep NotBuilt ∷ cause_if text Text
-    ∷ cause_if live Task ∷ cause_if name Name ∷ cause_if wait Wait ∷ [])
+    (cause_if file Cause.NotBuilt ∷ cause_if count Cause.Words ∷ option_map (λ k. Cause.Word k) word ∷ cause_if deep Cause.NotBuilt ∷ cause_if text Cause.Text
+    ∷ cause_if live Cause.Task ∷ cause_if name Cause.Name ∷ cause_if wait Cause.Wait ∷ [])
 
 -- no cause applies
 record NoCause (count : Bool) (word : Option ℕ) (text live wait : Bool) : Type 0 where
@@ -33,14 +33,14 @@ record NoCause (count : Bool) (word : Option ℕ) (text live wait : Bool) : Type
 
 no_cause : (file count : Bool) (word : Option ℕ) (deep text live name wait : Bool) → causes_of file count word deep text live name wait ≡ None
     → NoCause count word text live wait
-no_cause true count word deep text live name wait e = absurd (some_none NotBuilt e)
-no_cause false true word deep text live name wait e = absurd (some_none Words e)
-no_cause false false (Some k) deep text live name wait e = absurd (some_none (Word k) e)
-no_cause false false None true text live name wait e = absurd (some_none NotBuilt e)
-no_cause false false None false true live name wait e = absurd (some_none Text e)
-no_cause false false None false false true name wait e = absurd (some_none Task e)
-no_cause false false None false false false true wait e = absurd (some_none Name e)
-no_cause false false None false false false false true e = absurd (some_none Wait e)
+no_cause true count word deep text live name wait e = absurd (some_none Cause.NotBuilt e)
+no_cause false true word deep text live name wait e = absurd (some_none Cause.Words e)
+no_cause false false (Some k) deep text live name wait e = absurd (some_none (Cause.Word k) e)
+no_cause false false None true text live name wait e = absurd (some_none Cause.NotBuilt e)
+no_cause false false None false true live name wait e = absurd (some_none Cause.Text e)
+no_cause false false None false false true name wait e = absurd (some_none Cause.Task e)
+no_cause false false None false false false true wait e = absurd (some_none Cause.Name e)
+no_cause false false None false false false false true e = absurd (some_none Cause.Wait e)
 no_cause false false None false false false false false e = record { is_count = refl; is_word = refl; is_text = refl; is_live = refl; is_wait = refl }
 
 -- nothing is wrong with the words behind a verb
@@ -76,13 +76,13 @@ line_behind tasks (t ∷ v ∷ ws) text verb named many is = rw (named, ← is) 
 -- where nothing is wrong with a line, the words behind its verb are good
 pub line_good : (tasks : Tasks) (W : List Placed) (text : Bool) (verb : Verb) → HasVerb tasks W text verb
     → (2 ≤ length W) × GoodWords tasks (word_at 0 W).bytes (word_at 1 W) verb (drop 2 W) text
-line_good tasks [] text verb has = absurd (some_none (Word 1) has.good)
+line_good tasks [] text verb has = absurd (some_none (Cause.Word 1) has.good)
 line_good tasks (t ∷ ws) text verb has = by (is_task_name t.bytes) ws refl has.good has.is
   where
-    by : (b : Bool) (ws : List Placed) → is_task_name t.bytes ≡ b → (if b then behind_task tasks t.bytes ws text else Some (Word 1)) ≡ None
+    by : (b : Bool) (ws : List Placed) → is_task_name t.bytes ≡ b → (if b then behind_task tasks t.bytes ws text else Some (Cause.Word 1)) ≡ None
         → verb_of (word_at 1 (t ∷ ws)).bytes ≡ Some verb → (2 ≤ length (t ∷ ws)) × GoodWords tasks t.bytes (word_at 1 (t ∷ ws)) verb (drop 2 (t ∷ ws)) text
-    by false ws named good is = absurd (some_none (Word 1) good)
-    by true [] named good is = absurd (some_none NoVerb good)
+    by false ws named good is = absurd (some_none (Cause.Word 1) good)
+    by true [] named good is = absurd (some_none Cause.Verb good)
     by true (v ∷ vs) named good is = (omega arith, words_good tasks t.bytes v verb vs text (rw is at good))
 
 -- a line of these words, by what the words behind its task are

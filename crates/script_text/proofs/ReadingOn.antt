@@ -7,7 +7,7 @@ use Rattle.rule_text.proofs.WholeLines.{whole_of_lines}
 use Rattle.rule_text.specs.declared.part.Part.{Part}
 use Rattle.rule_text.specs.Parts.{lines_of, words_of, end_of, first_line, as_line}
 use Rattle.script_spec.specs.declared.ScriptFault.{ScriptFault}
-use Rattle.script_spec.specs.declared.ScriptFault.TheVariants.{Malformed, TooLarge, Memory}
+use Rattle.script_spec.specs.declared.ScriptFault.TheVariants as ScriptFault
 use Rattle.script_spec.specs.Lines.{ScriptLine, rows_in, table_of}
 use Rattle.script_spec.specs.Tasks.{tasks_of}
 use Rattle.script_spec.specs.Grammar.{Item, item_of, items, is_skipped, text_count, item_fault, call_of, calls_of, script_of, lines_fault, unless_fault, most_lines}
@@ -60,9 +60,9 @@ items_cut text f cut begins ends called =
 
 fails_as : (e : ScriptFault) (fault : Option ScriptFault) (more whole : Result (List ScriptLine) ScriptFault)
     → HasFault fault e → unless_fault fault more ≡ whole → Fails e whole
-fails_as Memory fault more whole has is = tt
-fails_as (Malformed line cause) fault more whole has is = sym is ∙ rw has refl
-fails_as (TooLarge what) fault more whole has is = sym is ∙ rw has refl
+fails_as ScriptFault.Memory fault more whole has is = tt
+fails_as (ScriptFault.Malformed line cause) fault more whole has is = sym is ∙ rw has refl
+fails_as (ScriptFault.TooLarge what) fault more whole has is = sym is ∙ rw has refl
 
 -- an item with a fault ends the reading
 pub item_fails : (d : Draft) (place : Place) (text line after : Part) (e : ScriptFault) → ReadsOn d place text

@@ -6,7 +6,7 @@ use Rattle.text_spec.specs.Names.{with_names}
 use Rattle.rule_text.specs.declared.part.Part.{Part}
 use Rattle.rule_text.specs.Parts.{lines_of, words_of, end_of, Fits}
 use Rattle.script_spec.specs.declared.ScriptFault.{ScriptFault}
-use Rattle.script_spec.specs.declared.ScriptFault.TheVariants.{Malformed, TooLarge, Memory}
+use Rattle.script_spec.specs.declared.ScriptFault.TheVariants as ScriptFault
 use Rattle.script_spec.specs.Lines.{ScriptLine, rows_of, rows_in, labels_of, table_of}
 use Rattle.script_spec.specs.Tasks.{Tasks, tasks_of, change_of, forked_name}
 use Rattle.script_spec.specs.Causes.{line_cause}
@@ -22,9 +22,9 @@ use Rattle.script_text.specs.TaskTables.{tasks_seen, count_in, IsWaitThere, IsTa
 
 -- why a reading ended; want of memory is free
 abbrev pub Fails : ScriptFault → Result (List ScriptLine) ScriptFault → Type 0
-Fails Memory read = Unit {0}
-Fails (Malformed line cause) read = read ≡ Err (Malformed line cause)
-Fails (TooLarge what) read = read ≡ Err (TooLarge what)
+Fails ScriptFault.Memory read = Unit {0}
+Fails (ScriptFault.Malformed line cause) read = read ≡ Err (ScriptFault.Malformed line cause)
+Fails (ScriptFault.TooLarge what) read = read ≡ Err (ScriptFault.TooLarge what)
 
 -- what was read is what the grammar gives
 abbrev pub Reads : Result (List ScriptLine) ScriptFault → Result (List ScriptLine) ScriptFault → Type 0
@@ -59,9 +59,9 @@ HasFewCalls t = (task : ℕ) → count_in t.calls.items task < most_lines
 
 -- why an item was not read; want of memory is free
 abbrev pub HasFault : Option ScriptFault → ScriptFault → Type 0
-HasFault fault Memory = Unit {0}
-HasFault fault (Malformed line cause) = fault ≡ Some (Malformed line cause)
-HasFault fault (TooLarge what) = fault ≡ Some (TooLarge what)
+HasFault fault ScriptFault.Memory = Unit {0}
+HasFault fault (ScriptFault.Malformed line cause) = fault ≡ Some (ScriptFault.Malformed line cause)
+HasFault fault (ScriptFault.TooLarge what) = fault ≡ Some (ScriptFault.TooLarge what)
 
 -- a part is the text of the first lines of another, and a part is what follows it
 pub record IsTextOf (count : ℕ) (after text rest : Part) : Type 0 where
@@ -84,7 +84,7 @@ item_found f = record {
 
 -- what is wrong with the words, the text or the tasks of an item
 abbrev pub words_fault : Tasks → Item → Option ScriptFault
-words_fault tasks i = option_map (λ cause. Malformed i.line cause) (line_cause tasks i.words (has_text i))
+words_fault tasks i = option_map (λ cause. ScriptFault.Malformed i.line cause) (line_cause tasks i.words (has_text i))
 
 -- what is wrong with a call by the limits, behind what is kept of the calls above it
 abbrev pub limits_fault : Tasks → ℕ → List (List ℕ) → ScriptLine → Option ScriptFault

@@ -5,7 +5,7 @@ use Rattle.script_spec.specs.Grammar.{most_tasks}
 use Rattle.rule_text.specs.declared.part.Part.{Part}
 use Rattle.script_text.specs.declared.tasks.TaskTable.{TaskTable}
 use Rattle.script_text.specs.declared.tasks.Change.{Change}
-use Rattle.script_text.specs.declared.tasks.Change.TheVariants.{Fork, Exit, Wait, Nothing}
+use Rattle.script_text.specs.declared.tasks.Change.TheVariants as Change
 
 -- the flag or the count of a task; false or 0 where there is no such task
 abbrev pub flag_in : List Bool → ℕ → Bool
@@ -28,10 +28,10 @@ tasks_seen t = record {
 }
 
 abbrev pub change_seen : Change → TaskChange
-change_seen (Fork name) = Forks name.bytes.now
-change_seen Exit = Exits
-change_seen (Wait name) = Awaits name.bytes.now
-change_seen Nothing = Keeps
+change_seen (Change.Fork name) = Forks name.bytes.now
+change_seen Change.Exit = Exits
+change_seen (Change.Wait name) = Awaits name.bytes.now
+change_seen Change.Nothing = Keeps
 
 -- what is said of tasks behind one more call of a task
 abbrev pub tasks_after : Tasks → ℕ → TaskChange → Tasks

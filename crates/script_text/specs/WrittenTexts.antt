@@ -1,7 +1,7 @@
 use Rattle.std.specs.Prelude.{◌≡◌, ◌+◌, ℕ, Bool, true, false, if◌then◌else◌, List, Option, length, map, All}
 use Rattle.std.specs.List.{flat_map}
 use Rattle.file_spec.specs.declared.SmackFile.{SmackFile}
-use Rattle.file_spec.specs.declared.SmackFile.TheVariants.{Rule, Own}
+use Rattle.file_spec.specs.declared.SmackFile.TheVariants as SmackFile
 use Rattle.file_spec.specs.Writes.{names_of, names_of_text, rows_of_text}
 use Rattle.smackfs.specs.declared.named_op.NamedOp.{NamedOp}
 use Rattle.smackfs.specs.Named.{named, HasGoodNames}
@@ -11,8 +11,8 @@ use Rattle.script_text.specs.declared.texts.WrittenText.{WrittenText}
 
 -- the text of a file of rules becomes a batch
 abbrev pub is_batch_file : SmackFile → Bool
-is_batch_file (Rule file) = true
-is_batch_file (Own file) = false
+is_batch_file (SmackFile.Rule file) = true
+is_batch_file (SmackFile.Own file) = false
 
 -- the rows of a journal that a text takes
 abbrev pub text_rows : WrittenText → ℕ

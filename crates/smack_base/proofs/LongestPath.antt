@@ -3,7 +3,7 @@ use Rattle.std.specs.Prelude.{map, nat_eq, is_ok}
 use Rattle.std.specs.Result.{result_err}
 use Rattle.std.proofs.lemmas.Bool.{cases_Bool, ltb-false}
 use Rattle.smack_base.specs.declared.path.PathFault.{PathFault}
-use Rattle.smack_base.specs.declared.path.PathFault.TheVariants.{TooDeep}
+use Rattle.smack_base.specs.declared.path.PathFault.TheVariants as PathFault
 use Rattle.smack_base.specs.Paths.{PathName, is_slash, names_from, in_first_name, name_fault, first_path_fault, path_of}
 use Rattle.smack_base.specs.PathNames.{path_names, begins_with_slash, or_too_deep, names_fault}
 use Rattle.smack_base.proofs.NamesOfPaths.{fault_of_path, not_absolute}
@@ -55,7 +55,7 @@ not_deep : (f : Option PathFault) (names : List PathName) → or_too_deep f name
 not_deep (Some f) names none = cc
 not_deep None names none = (refl, ltb-false 32 (length names) (by (nat_lt 32 (length names)) none))
   where
-    by : (b : Bool) → (if b then Some TooDeep else None) ≡ None → b ≡ false
+    by : (b : Bool) → (if b then Some PathFault.TooDeep else None) ≡ None → b ≡ false
     by true none = cc
     by false none = refl
 

@@ -5,7 +5,7 @@ use Rattle.std.specs.Result.{result_err}
 use Rattle.std.proofs.lemmas.Bool.{cases_Bool}
 use Rattle.std.proofs.lemmas.List.{take_rest}
 use Rattle.smack_base.specs.declared.path.PathFault.{PathFault}
-use Rattle.smack_base.specs.declared.path.PathFault.TheVariants.{NotAbsolute, TooDeep}
+use Rattle.smack_base.specs.declared.path.PathFault.TheVariants as PathFault
 use Rattle.smack_base.specs.Paths.{PathName, is_slash, names_from, in_first_name, name_fault, first_path_fault, unless_bad_name, named, path_of}
 use Rattle.smack_base.specs.PathNames.{path_name, names_left, path_names, begins_with_slash, or_too_deep, names_fault}
 
@@ -76,7 +76,7 @@ fault_of_named : (fault : Option PathFault) (names : List PathName) → or_too_d
 fault_of_named (Some f) names = refl
 fault_of_named None names = by (nat_lt 32 (length names))
   where
-    by : (b : Bool) → (if b then Some TooDeep else None) ≡ result_err (if b then Err TooDeep else Ok (map (λ n. n.bytes) names))
+    by : (b : Bool) → (if b then Some PathFault.TooDeep else None) ≡ result_err (if b then Err PathFault.TooDeep else Ok (map (λ n. n.bytes) names))
     by true = refl
     by false = refl
 
@@ -85,7 +85,7 @@ pub fault_of_path : (path : List ℕ) → begins_with_slash path ≡ true → na
 fault_of_path path e = fault_of_named (first_path_fault (map name_fault (path_names path))) (path_names path) ∙ ap result_err (sym (is_named path e))
 
 -- any other text is not absolute
-pub not_absolute : (path : List ℕ) → begins_with_slash path ≡ false → Some NotAbsolute ≡ result_err (path_of path)
+pub not_absolute : (path : List ℕ) → begins_with_slash path ≡ false → Some PathFault.NotAbsolute ≡ result_err (path_of path)
 not_absolute [] e = refl
 not_absolute (b ∷ bs) e = simp e refl
 
@@ -94,8 +94,8 @@ named_without_fault : (fault : Option PathFault) (names : List PathName) → res
 named_without_fault (Some f) names none = cc
 named_without_fault None names none = by (nat_lt 32 (length names)) none
   where
-    by : (b : Bool) → result_err (if b then Err TooDeep else Ok (map (λ n. n.bytes) names)) ≡ None
-        → (if b then Err TooDeep else Ok (map (λ n. n.bytes) names)) ≡ Ok (map (λ n. n.bytes) names)
+    by : (b : Bool) → result_err (if b then Err PathFault.TooDeep else Ok (map (λ n. n.bytes) names)) ≡ None
+        → (if b then Err PathFault.TooDeep else Ok (map (λ n. n.bytes) names)) ≡ Ok (map (λ n. n.bytes) names)
     by true none = cc
     by false none = refl
 

@@ -2,7 +2,7 @@ use Rattle.std.specs.Prelude.{ℕ, Bool, false, ◌&&◌, not, ◌==◌, if◌th
 use Rattle.std.specs.Char.{is_ascii_graphic}
 use Rattle.std.specs.Option.{option_map}
 use Rattle.smack_base.specs.declared.label.LabelFault.{LabelFault}
-use Rattle.smack_base.specs.declared.label.LabelFault.TheVariants.{Empty, TooLong, LeadingDash, BadByte}
+use Rattle.smack_base.specs.declared.label.LabelFault.TheVariants as LabelFault
 
 -- a byte from ! to ~ that is none of / \ ' "
 abbrev pub is_label_byte : ℕ → Bool
@@ -16,10 +16,10 @@ begins_with_dash (b ∷ bs) = b == 45
 -- the first fault of a text as a label, if it has one
 abbrev pub label_fault : List ℕ → Option LabelFault
 label_fault text =
-    if length text == 0 then Some Empty
-    else (if nat_lt 255 (length text) then Some TooLong
-    else (if begins_with_dash text then Some LeadingDash
-    else option_map (λ at. BadByte at) (position (λ b. not (is_label_byte b)) text)))
+    if length text == 0 then Some LabelFault.Empty
+    else (if nat_lt 255 (length text) then Some LabelFault.TooLong
+    else (if begins_with_dash text then Some LabelFault.LeadingDash
+    else option_map (λ at. LabelFault.BadByte at) (position (λ b. not (is_label_byte b)) text)))
 
 -- whether a text is a label
 abbrev pub is_label : List ℕ → Bool

@@ -1,6 +1,6 @@
 use Rattle.std.specs.Prelude.{ℕ, ◌+◌, Bool, false, if◌then◌else◌, List, [], ◌∷◌, Option, Some, None, length, map, nat_lt}
 use Rattle.smack_base.specs.declared.path.PathFault.{PathFault}
-use Rattle.smack_base.specs.declared.path.PathFault.TheVariants.{TooDeep}
+use Rattle.smack_base.specs.declared.path.PathFault.TheVariants as PathFault
 use Rattle.smack_base.specs.Paths.{PathName, names_from, is_slash, name_fault, first_path_fault}
 
 -- the name with these bytes that begins at this place
@@ -26,7 +26,7 @@ begins_with_slash (b ∷ bs) = is_slash b
 -- the fault that one of some names has, or that they are too many
 abbrev pub or_too_deep : Option PathFault → List PathName → Option PathFault
 or_too_deep (Some f) names = Some f
-or_too_deep None names = if nat_lt 32 (length names) then Some TooDeep else None
+or_too_deep None names = if nat_lt 32 (length names) then Some PathFault.TooDeep else None
 
 -- the fault of some names in their order
 abbrev pub names_fault : List PathName → Option PathFault

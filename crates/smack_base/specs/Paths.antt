@@ -2,7 +2,7 @@ use Rattle.std.specs.Prelude.{ℕ, ◌+◌, Bool, false, ◌&&◌, not, ◌==◌
 use Rattle.std.specs.Char.{is_ascii_graphic}
 use Rattle.std.specs.Option.{option_map}
 use Rattle.smack_base.specs.declared.path.PathFault.{PathFault}
-use Rattle.smack_base.specs.declared.path.PathFault.TheVariants.{NotAbsolute, EmptyName, NameTooLong, DotName, BadByte, TooDeep}
+use Rattle.smack_base.specs.declared.path.PathFault.TheVariants as PathFault
 
 -- a name of a path, and the place of its first byte
 pub record PathName : Type 0 where
@@ -36,10 +36,10 @@ is_name_byte b = is_ascii_graphic b
 -- the first fault of a name, if it has one
 abbrev pub name_fault : PathName → Option PathFault
 name_fault n =
-    if length n.bytes == 0 then Some (EmptyName n.at)
-    else (if nat_lt 64 (length n.bytes) then Some (NameTooLong n.at)
-    else (if is_dots n.bytes then Some (DotName n.at)
-    else option_map (λ i. BadByte (n.at + i)) (position (λ b. not (is_name_byte b)) n.bytes)))
+    if length n.bytes == 0 then Some (PathFault.EmptyName n.at)
+    else (if nat_lt 64 (length n.bytes) then Some (PathFault.NameTooLong n.at)
+    else (if is_dots n.bytes then Some (PathFault.DotName n.at)
+    else option_map (λ i. PathFault.BadByte (n.at + i)) (position (λ b. not (is_name_byte b)) n.bytes)))
 
 -- the first fault of some, in their order
 abbrev pub first_path_fault : List (Option PathFault) → Option PathFault
@@ -49,7 +49,7 @@ first_path_fault (Some f ∷ more) = Some f
 
 abbrev pub unless_bad_name : Option PathFault → List PathName → Result (List (List ℕ)) PathFault
 unless_bad_name (Some f) names = Err f
-unless_bad_name None names = if nat_lt 32 (length names) then Err TooDeep else Ok (map (λ n. n.bytes) names)
+unless_bad_name None names = if nat_lt 32 (length names) then Err PathFault.TooDeep else Ok (map (λ n. n.bytes) names)
 
 abbrev pub named : List PathName → Result (List (List ℕ)) PathFault
 named names = unless_bad_name (first_path_fault (map name_fault names)) names
@@ -61,5 +61,5 @@ names_of (b ∷ bs) = named (names_from 1 (b ∷ bs))
 
 -- the names of a path, or its first fault
 abbrev pub path_of : List ℕ → Result (List (List ℕ)) PathFault
-path_of [] = Err NotAbsolute
-path_of (b ∷ bs) = if is_slash b then names_of bs else Err NotAbsolute
+path_of [] = Err PathFault.NotAbsolute
+path_of (b ∷ bs) = if is_slash b then names_of bs else Err PathFault.NotAbsolute

@@ -3,7 +3,7 @@ use Rattle.std.specs.Prelude.{Result, Ok, Err, map, not}
 use Rattle.std.proofs.lemmas.List.{length-map}
 use Rattle.text_spec.specs.declared.BadLine.{BadLine}
 use Rattle.text_spec.specs.declared.RuleForm.{RuleForm}
-use Rattle.text_spec.specs.declared.RuleForm.TheVariants.{Long, Short, Change}
+use Rattle.text_spec.specs.declared.RuleForm.TheVariants as RuleForm
 use Rattle.text_spec.specs.Texts.{Placed, TextLine, lines_from, words_from, in_first_line, in_first_word, begins_word, is_feed, is_blank}
 use Rattle.text_spec.specs.RuleTexts.{RuleWords, LineWord, line_answer, line_answers, rule_answers, subject_answer, subject_answers_from, subject_answers, before_more, line_words, all_words, words_answers, label_answers, list_word, is_dash, blank_words}
 
@@ -83,9 +83,9 @@ line_few : (form : RuleForm) (n at : ℕ) (bytes : List ℕ) (ended : Bool) (mor
     → 2 * length
     (before_more
     (line_answer form n (record { at = at; bytes = bytes; ended = ended })) more) ≤ length bytes + 1 + k
-line_few Long n at [] ended more k h = omega arith
-line_few Change n at [] ended more k h = omega arith
-line_few Short n at [] ended more k h = omega arith
+line_few RuleForm.Long n at [] ended more k h = omega arith
+line_few RuleForm.Change n at [] ended more k h = omega arith
+line_few RuleForm.Short n at [] ended more k h = omega arith
 line_few form n at (b ∷ bs) ended more k h =
     let a = more_few (line_answer form n (record { at = at; bytes = b ∷ bs; ended = ended })) more in omega arith
 

@@ -8,11 +8,11 @@ use Rattle.rules_spec.specs.declared.Batch.{Batch}
 use Rattle.rules_spec.specs.declared.Verdict.{Verdict}
 use Rattle.rule_fold.specs.Index.{IndexValue}
 use Rattle.world_spec.specs.declared.Call.{Call}
-use Rattle.world_spec.specs.declared.Call.TheVariants.{Task}
-use Rattle.world_spec.specs.declared.TaskCall.TheVariants.{Fork}
+use Rattle.world_spec.specs.declared.Call.TheVariants as Call
+use Rattle.world_spec.specs.declared.TaskCall.TheVariants as TaskCall
 use Rattle.world_spec.specs.declared.Entry.{Entry}
 use Rattle.world_spec.specs.declared.Reply.{Reply}
-use Rattle.world_spec.specs.declared.Reply.TheVariants.{Ok as Done, Child, Signal, Names, Denied, Refused}
+use Rattle.world_spec.specs.declared.Reply.TheVariants as Reply
 use Rattle.world_spec.specs.Worlds.{World, world_first, creds_of, creds_or_first, task_begun}
 use Rattle.world_spec.specs.Questions.{asks}
 use Rattle.world_spec.specs.Steps.{Effect, went, verdict_of, effect, stepped, step}
@@ -31,12 +31,12 @@ use Rattle.smack_kernel.specs.Indexes.{StandsAt}
 use Rattle.smack_kernel.specs.Growth.{entry_of}
 use Rattle.smack_kernel.specs.declared.turns.Entered.{Entered}
 use Rattle.smack_kernel.specs.declared.turns.Turned.{Turned}
-use Rattle.smack_kernel.specs.declared.turns.Turned.TheVariants as turned
+use Rattle.smack_kernel.specs.declared.turns.Turned.TheVariants as Turned
 use Rattle.smack_kernel.specs.Tasks.{TaskValue, AreSeen, IsTask, Calls, Starts, task_of, most_calls}
 use Rattle.smack_kernel.specs.Turns.{IsMade}
 use Rattle.smack_kernel.specs.Forks.{task_made, IsBranched, MayFork, Drew, Forks}
 use Rattle.smack_kernel.specs.Answers.{IsForked}
-use Rattle.smack_kernel.specs.declared.kernel.Called.TheVariants as called
+use Rattle.smack_kernel.specs.declared.kernel.Called.TheVariants as Called
 use Rattle.smack_kernel.proofs.Indexes.{stands_longer, stands_within}
 use Rattle.smack_kernel.proofs.Worlds.{IsLive, Stops, MakesNext, are_seen, stop_child, went_stops, step_makes, replay_made}
 use Rattle.smack_kernel.proofs.OwnCreds.{child_has, fork_prepared}
@@ -144,12 +144,12 @@ stepped_child w task e checks None stops goes k is = goes refl
 
 -- the child of a fork has its parent's credentials
 fork_child : (w : World) (version : Ruling) (task : ℕ) (pid : Pid) (k : ℕ)
-    → child_of (step w version task (Task (Fork pid))).reply ≡ Some k
-    → creds_of (step w version task (Task (Fork pid))).world (length w.tasks) ≡ creds_of w task
+    → child_of (step w version task (Call.Task (TaskCall.Fork pid))).reply ≡ Some k
+    → creds_of (step w version task (Call.Task (TaskCall.Fork pid))).world (length w.tasks) ≡ creds_of w task
 fork_child w version task pid k is =
-    let parts = asks w version task (Task (Fork pid)) in
+    let parts = asks w version task (Call.Task (TaskCall.Fork pid)) in
     let went_by = went (verdict_of w version task) parts in
-    stepped_child w task (effect w version task (Task (Fork pid))) went_by.checks went_by.stop
+    stepped_child w task (effect w version task (Call.Task (TaskCall.Fork pid))) went_by.checks went_by.stop
     (went_stops (verdict_of w version task) parts)
     (λ _. ap creds_or_first (child_has w.tasks (task_begun pid (creds_of w task)))) k is
 
@@ -159,13 +159,13 @@ over_longer {j} {j'} m b over = subst (λ z. StandsOver z m.trail m.world) (sym 
 
 -- a call that made a task is an entry
 pub some_made : (q : Turned) → is_some (task_made q) ≡ true
-    → (r : Entered) × (q ≡ turned.Entry r) × ((k : ℕ) × (child_of r.reply ≡ Some k))
-some_made (turned.Entry r) is = (r, refl, some_of (child_of r.reply) is)
+    → (r : Entered) × (q ≡ Turned.Entry r) × ((k : ℕ) × (child_of r.reply ≡ Some k))
+some_made (Turned.Entry r) is = (r, refl, some_of (child_of r.reply) is)
   where
     some_of : (o : Option ℕ) → is_some o ≡ true → (k : ℕ) × (o ≡ Some k)
     some_of None is = absurd (let e : false ≡ true = is in cc)
     some_of (Some k) is = (k, refl)
-some_made (turned.TrailFull back) is = absurd (let e : false ≡ true = is in cc)
+some_made (Turned.TrailFull back) is = absurd (let e : false ≡ true = is in cc)
 
 pub none_of : (o : Option ℕ) → is_some o ≡ false → o ≡ None
 none_of None is = refl
@@ -174,18 +174,18 @@ none_of (Some k) is = absurd (let e : true ≡ false = is in cc)
 -- a task takes the turn and its fork makes a task
 module _ {s : SeatValue Entry} {w : View Entry} {rules : IndexValue} {rows : ℕ} {creds : Creds} (task : IsTask s rules rows creds)
     (x m' : WorldValue) (t : Turns world_means s.view w x) (calls : ℕ) (pid : Pid) (r : Entered)
-    (is_made : IsMade x m' (ruling w.journal) s.number (calls + 1) (Task (Fork pid)) (turned.Entry r)) (k : ℕ)
+    (is_made : IsMade x m' (ruling w.journal) s.number (calls + 1) (Call.Task (TaskCall.Fork pid)) (Turned.Entry r)) (k : ℕ)
     (is_child : child_of r.reply ≡ Some k) (stands : StandsOver w.journal m'.trail m'.world) where
   abbrev pub entry : Entry
-  entry = entry_of s.number (calls + 1) (Task (Fork pid)) r.version r.checks r.reply
+  entry = entry_of s.number (calls + 1) (Call.Task (TaskCall.Fork pid)) r.version r.checks r.reply
 
-  replies : child_of (step x.world (ruling w.journal) s.number (Task (Fork pid))).reply ≡ Some k
+  replies : child_of (step x.world (ruling w.journal) s.number (Call.Task (TaskCall.Fork pid))).reply ≡ Some k
   replies = ap child_of (sym is_made.0.4) ∙ is_child
 
   next : MakesNext (length x.world.tasks) true (Some k) (length m'.world.tasks)
   next = subst (λ (z : Option ℕ × ℕ). MakesNext (length x.world.tasks) true z.0 z.1)
       (λ i. (replies i, ap (λ (z : WorldValue). length z.world.tasks) (sym is_made.0.1) i))
-      (step_makes x.world (ruling w.journal) s.number (Task (Fork pid)))
+      (step_makes x.world (ruling w.journal) s.number (Call.Task (TaskCall.Fork pid)))
 
   count : length x.world.tasks ≡ made world_means w.history + 1
   count =
@@ -196,8 +196,8 @@ module _ {s : SeatValue Entry} {w : View Entry} {rules : IndexValue} {rows : ℕ
 
   trail : m'.trail ≡ w.history ++ entry ∷ []
   trail =
-      let q : Result Turned ℕ = Ok (turned.Entry r) in
-      trail_made w.journal x m' s.number (calls + 1) (Task (Fork pid)) q is_made tt ∙ ap (λ l. l ++ entry ∷ []) t.is
+      let q : Result Turned ℕ = Ok (Turned.Entry r) in
+      trail_made w.journal x m' s.number (calls + 1) (Call.Task (TaskCall.Fork pid)) q is_made tt ∙ ap (λ l. l ++ entry ∷ []) t.is
 
   pub may_fork : MayFork w m' entry
   may_fork = record {
@@ -229,8 +229,8 @@ module _ {s : SeatValue Entry} {w : View Entry} {rules : IndexValue} {rows : ℕ
 
     live : IsLive m'.world s.number creds'
     live = (
-      (let q : Result Turned ℕ = Ok (turned.Entry r) in
-          alive_made w.journal x m' s.number (calls + 1) (Task (Fork pid)) q is_made tt s.number
+      (let q : Result Turned ℕ = Ok (Turned.Entry r) in
+          alive_made w.journal x m' s.number (calls + 1) (Call.Task (TaskCall.Fork pid)) q is_made tt s.number
           (turn_live task w x t).0),
       is_creds,
     )
@@ -240,8 +240,8 @@ module _ {s : SeatValue Entry} {w : View Entry} {rules : IndexValue} {rows : ℕ
         (f.pen ∙ (ap (λ (z : View Entry). z.pen) t.view ∙ task.rests.0), f.turn) (stands_longer f.journal index) over history
         live
 
-    pub calls_forked : Calls (task_of s rules calls creds) (task_of s3 rules' (calls + 1) creds') (Task (Fork pid)) r
-    calls_forked = turn_calls task task_forked calls table number (f.numbers ∙ seen_numbers) later (Task (Fork pid)) r
+    pub calls_forked : Calls (task_of s rules calls creds) (task_of s3 rules' (calls + 1) creds') (Call.Task (TaskCall.Fork pid)) r
+    calls_forked = turn_calls task task_forked calls table number (f.numbers ∙ seen_numbers) later (Call.Task (TaskCall.Fork pid)) r
         (is_made.1 ∙ sym whole)
         (turn_enters task w x t s3.view entry r.place refl f.history f.journal
         (λ q h. f.batches q (subst (Has q) (sym seen_numbers) h)) is_made.0.0 is_made.0.2 is_made.1 is_made.0.3 is_made.0.4)
@@ -302,13 +302,13 @@ module _ {s : SeatValue Entry} {w : View Entry} {rules : IndexValue} {rows : ℕ
     pub child_named : child_of r.reply ≡ Some c.number
     child_named = is_child ∙ ap Some (next.0 ∙ sym child_number)
 
-child_reply : (reply : Reply) (n : ℕ) → child_of reply ≡ Some n → reply ≡ Child n
-child_reply Done n is = absurd (let e : ◌≡◌ {A = Option ℕ} None (Some n) = is in cc)
-child_reply (Child k) n is = let same : k ≡ n = cc in ap Child same
-child_reply (Signal sig) n is = absurd (let e : ◌≡◌ {A = Option ℕ} None (Some n) = is in cc)
-child_reply (Names count names) n is = absurd (let e : ◌≡◌ {A = Option ℕ} None (Some n) = is in cc)
-child_reply (Denied case) n is = absurd (let e : ◌≡◌ {A = Option ℕ} None (Some n) = is in cc)
-child_reply (Refused why) n is = absurd (let e : ◌≡◌ {A = Option ℕ} None (Some n) = is in cc)
+child_reply : (reply : Reply) (n : ℕ) → child_of reply ≡ Some n → reply ≡ Reply.Child n
+child_reply Reply.Ok n is = absurd (let e : ◌≡◌ {A = Option ℕ} None (Some n) = is in cc)
+child_reply (Reply.Child k) n is = let same : k ≡ n = cc in ap Reply.Child same
+child_reply (Reply.Signal sig) n is = absurd (let e : ◌≡◌ {A = Option ℕ} None (Some n) = is in cc)
+child_reply (Reply.Names count names) n is = absurd (let e : ◌≡◌ {A = Option ℕ} None (Some n) = is in cc)
+child_reply (Reply.Denied case) n is = absurd (let e : ◌≡◌ {A = Option ℕ} None (Some n) = is in cc)
+child_reply (Reply.Refused why) n is = absurd (let e : ◌≡◌ {A = Option ℕ} None (Some n) = is in cc)
 
 -- the child of a fork that is counted
 counted_starts : (w c : TaskValue) (n : ℕ) → Starts w c c.number → Starts (record w { made = n }) c c.number
@@ -328,12 +328,12 @@ counted_starts w c n s = record {
 
 -- what a fork comes to, once it is counted
 pub forked_entry : (v w : TaskValue) (pid : Pid) (r : Entered) (child : Option TaskValue) → v.made < most_calls
-    → IsBranched v w pid (turned.Entry r) child
-    → IsForked v (record w { made = v.made + 1 }) pid (called.Entry r) child
+    → IsBranched v w pid (Turned.Entry r) child
+    → IsForked v (record w { made = v.made + 1 }) pid (Called.Entry r) child
 forked_entry v w pid r None few b = (few, b.0, b.1)
 forked_entry v w pid r (Some c) few b = (few, b.0, child_reply r.reply c.number b.1, counted_starts w c (v.made + 1) b.2)
 
 pub forked_full : (v w : TaskValue) (pid : Pid) (call : Call) (child : Option TaskValue) → v.made < most_calls
-    → IsBranched v w pid (turned.TrailFull call) child → IsForked v w pid (called.TrailFull call) child
+    → IsBranched v w pid (Turned.TrailFull call) child → IsForked v w pid (Called.TrailFull call) child
 forked_full v w pid call None few b = ((few, b.0.0, b.0.2), b.0.1)
 forked_full v w pid call (Some c) few b = absurd (let e : ◌≡◌ {A = Option ℕ} None (Some c.number) = b.1 in cc)

@@ -13,7 +13,7 @@ use Rattle.live_table.proofs.Lists.{begins_self, begins_more, those-append, thos
 use Rattle.smack_kernel.specs.Histories.{world_means}
 use Rattle.smack_kernel.specs.Growth.{Grows, Publishes, IsJudged, batch_of}
 use Rattle.smack_kernel.specs.declared.publishing.Published.{Published}
-use Rattle.smack_kernel.specs.declared.publishing.Published.TheVariants as published
+use Rattle.smack_kernel.specs.declared.publishing.Published.TheVariants as Published
 
 module _ {number : ℕ} {ended numbers : List ℕ} {j j' : List Batch} {h h' : List Entry} where
   -- what a seat has seen grew, and its numbers have no more in it
@@ -78,7 +78,7 @@ back_grows v m n number named s is =
 pub batch_grows : (v m n : View Entry) (number : ℕ) (creds : Creds) (b : Batch) → v.numbers ≡ number ∷ rest_of v.numbers
     → (Has number (rest_of v.numbers) → ⊥) → b.task ≡ number → Sees (with_pen v) m
     → n ≡ record m { journal = m.journal ++ b ∷ []; pen = false; filled = [] }
-    → IsJudged m.journal creds b.ops published.Batch
+    → IsJudged m.journal creds b.ops Published.Batch
     → Publishes number (rest_of v.numbers) v.journal n.journal v.history n.history b.seq b.ops creds
 batch_grows v m n number creds b named apart own s is judged =
     let same : b ≡ batch_of number b.seq b.ops = λ i. record { task = own i; seq = b.seq; ops = b.ops } in

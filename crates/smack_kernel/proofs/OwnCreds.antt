@@ -10,17 +10,17 @@ use Rattle.rules_spec.specs.Creds.{Creds, is_effective, without_cap, with_self_r
 use Rattle.smack_base.specs.declared.ids.LabelId.{LabelId}
 use Rattle.smack_base.specs.declared.ids.Pid.{Pid}
 use Rattle.smack_base.specs.declared.cap.Cap.{Cap}
-use Rattle.smack_base.specs.declared.cap.Cap.TheVariants.{MacAdmin}
+use Rattle.smack_base.specs.declared.cap.Cap.TheVariants as Cap
 use Rattle.smack_base.specs.declared.rule_op.Pair.{Pair}
 use Rattle.world_spec.specs.declared.Call.{Call}
-use Rattle.world_spec.specs.declared.Call.TheVariants.{Task, Tree}
-use Rattle.world_spec.specs.declared.TaskCall.TheVariants.{Fork, Exit, Relabel, DropCap, SelfRules, Relabels, Kill, Take, TraceRead, TraceAttach}
+use Rattle.world_spec.specs.declared.Call.TheVariants as Call
+use Rattle.world_spec.specs.declared.TaskCall.TheVariants as TaskCall
 use Rattle.world_spec.specs.declared.TreeCall.{TreeCall}
-use Rattle.world_spec.specs.declared.TreeCall.TheVariants.{Create, Unlink, ListDir}
-use Rattle.world_spec.specs.declared.Part.TheVariants.{Refuses}
-use Rattle.world_spec.specs.declared.Why.TheVariants.{NoSuchTask, NotPrivileged, SelfFull, RelabelFull}
+use Rattle.world_spec.specs.declared.TreeCall.TheVariants as TreeCall
+use Rattle.world_spec.specs.declared.Part.TheVariants as Part
+use Rattle.world_spec.specs.declared.Why.TheVariants as Why
 use Rattle.world_spec.specs.declared.Reply.{Reply}
-use Rattle.world_spec.specs.declared.Reply.TheVariants.{Ok as Done, Child, Signal, Names, Denied, Refused}
+use Rattle.world_spec.specs.declared.Reply.TheVariants as Reply
 use Rattle.world_spec.specs.Worlds.{World, TaskRow, creds_in, creds_or_first, creds_of, changed_at, live_task, is_live, task_begun}
 use Rattle.world_spec.specs.Questions.{asks}
 use Rattle.world_spec.specs.Steps.{Effect, went, verdict_of, relabelled, signalled, effect, stepped}
@@ -70,12 +70,12 @@ child_has (r ∷ rs) more = child_has rs more
 -- a reply that ends a call leaves what was
 stop_left : (next : Option Creds) (c : Creds) (reply : Reply) → IsStop reply → creds_left next c reply ≡ c
 stop_left None c reply s = refl
-stop_left (Some next) c Done s = absurd s
-stop_left (Some next) c (Child n) s = absurd s
-stop_left (Some next) c (Signal sig) s = absurd s
-stop_left (Some next) c (Names count names) s = absurd s
-stop_left (Some next) c (Denied case) s = refl
-stop_left (Some next) c (Refused why) s = refl
+stop_left (Some next) c Reply.Ok s = absurd s
+stop_left (Some next) c (Reply.Child n) s = absurd s
+stop_left (Some next) c (Reply.Signal sig) s = absurd s
+stop_left (Some next) c (Reply.Names count names) s = absurd s
+stop_left (Some next) c (Reply.Denied case) s = refl
+stop_left (Some next) c (Reply.Refused why) s = refl
 
 stepped_left : (w : World) (task : ℕ) (c : Creds) (next : Option Creds) (e : Effect) (checks : List Verdict)
     (stop : Option Reply) → Stops stop → creds_of w task ≡ c
@@ -97,39 +97,39 @@ module _ (c : Creds) (version : Ruling) (call : Call) (next : Option Creds) wher
       (went_stops (verdict_of w version task) parts) is (goes w task low is)
 
 module _ (c : Creds) (version : Ruling) where
-  pub relabel_prepared : (l : LabelId) → ArePrepared c version (Task (Relabel l)) (Some (relabelled c version l))
-  relabel_prepared l = goes_through c version (Task (Relabel l)) (Some (relabelled c version l))
+  pub relabel_prepared : (l : LabelId) → ArePrepared c version (Call.Task (TaskCall.Relabel l)) (Some (relabelled c version l))
+  relabel_prepared l = goes_through c version (Call.Task (TaskCall.Relabel l)) (Some (relabelled c version l))
       (λ w task low is _. put_creds w.tasks task (relabelled (creds_of w task) version l) low
       ∙ ap (λ z. relabelled z version l) is)
 
-  pub drop_prepared : (cap : Cap) → ArePrepared c version (Task (DropCap cap)) (Some (without_cap c cap))
-  drop_prepared cap = goes_through c version (Task (DropCap cap)) (Some (without_cap c cap))
+  pub drop_prepared : (cap : Cap) → ArePrepared c version (Call.Task (TaskCall.DropCap cap)) (Some (without_cap c cap))
+  drop_prepared cap = goes_through c version (Call.Task (TaskCall.DropCap cap)) (Some (without_cap c cap))
       (λ w task low is _. put_creds w.tasks task (without_cap (creds_of w task) cap) low
       ∙ ap (λ z. without_cap z cap) is)
 
   pub rules_prepared : (rules : List Pair)
-      → ArePrepared c version (Task (SelfRules rules)) (Some (record c { self_rules = with_self_rules c.self_rules rules }))
-  rules_prepared rules = goes_through c version (Task (SelfRules rules))
+      → ArePrepared c version (Call.Task (TaskCall.SelfRules rules)) (Some (record c { self_rules = with_self_rules c.self_rules rules }))
+  rules_prepared rules = goes_through c version (Call.Task (TaskCall.SelfRules rules))
       (Some (record c { self_rules = with_self_rules c.self_rules rules }))
       (λ w task low is _. put_creds w.tasks task
       (record (creds_of w task) { self_rules = with_self_rules (creds_of w task).self_rules rules }) low
       ∙ ap (λ (z : Creds). record z { self_rules = with_self_rules z.self_rules rules }) is)
 
   pub list_prepared : (labels : List LabelId)
-      → ArePrepared c version (Task (Relabels labels)) (Some (record c { relabels = labels }))
-  list_prepared labels = goes_through c version (Task (Relabels labels)) (Some (record c { relabels = labels }))
+      → ArePrepared c version (Call.Task (TaskCall.Relabels labels)) (Some (record c { relabels = labels }))
+  list_prepared labels = goes_through c version (Call.Task (TaskCall.Relabels labels)) (Some (record c { relabels = labels }))
       (λ w task low is _. put_creds w.tasks task (record (creds_of w task) { relabels = labels }) low
       ∙ ap (λ (z : Creds). record z { relabels = labels }) is)
 
   -- more self rules than may stand are refused
   pub rules_refused : (rules : List Pair) → most_self_rules < length (with_self_rules c.self_rules rules)
-      → ArePrepared c version (Task (SelfRules rules)) None
-  rules_refused rules many = goes_through c version (Task (SelfRules rules)) None
+      → ArePrepared c version (Call.Task (TaskCall.SelfRules rules)) None
+  rules_refused rules many = goes_through c version (Call.Task (TaskCall.SelfRules rules)) None
       (λ w task low is none.
       let count = length (with_self_rules (creds_of w task).self_rules rules) in
-      let a = through (verdict_of w version task) (not (is_live w.tasks task)) NoSuchTask
-      (Refuses (nat_lt most_self_rules count) (SelfFull most_self_rules) ∷ []) none in
-      let b = through (verdict_of w version task) (nat_lt most_self_rules count) (SelfFull most_self_rules) [] a.1 in
+      let a = through (verdict_of w version task) (not (is_live w.tasks task)) Why.NoSuchTask
+      (Part.Refuses (nat_lt most_self_rules count) (Why.SelfFull most_self_rules) ∷ []) none in
+      let b = through (verdict_of w version task) (nat_lt most_self_rules count) (Why.SelfFull most_self_rules) [] a.1 in
       let same : count ≡ length (with_self_rules c.self_rules rules) =
       ap (λ (z : Creds). length (with_self_rules z.self_rules rules)) is in
       let over : nat_lt most_self_rules count ≡ true = lt-ltb most_self_rules count (omega arith) in
@@ -137,44 +137,44 @@ module _ (c : Creds) (version : Ruling) where
 
   -- a list of more labels than may stand is refused
   pub list_refused : (labels : List LabelId) → most_relabels < length labels
-      → ArePrepared c version (Task (Relabels labels)) None
-  list_refused labels many = goes_through c version (Task (Relabels labels)) None
+      → ArePrepared c version (Call.Task (TaskCall.Relabels labels)) None
+  list_refused labels many = goes_through c version (Call.Task (TaskCall.Relabels labels)) None
       (λ w task low is none.
-      let long = Refuses (nat_lt most_relabels (length labels)) (RelabelFull most_relabels) ∷ [] in
-      let lacks = not (is_effective (creds_of w task) MacAdmin version) in
-      let a = through (verdict_of w version task) (not (is_live w.tasks task)) NoSuchTask
-      (Refuses lacks NotPrivileged ∷ long) none in
-      let b = through (verdict_of w version task) lacks NotPrivileged long a.1 in
-      let d = through (verdict_of w version task) (nat_lt most_relabels (length labels)) (RelabelFull most_relabels) [] b.1 in
+      let long = Part.Refuses (nat_lt most_relabels (length labels)) (Why.RelabelFull most_relabels) ∷ [] in
+      let lacks = not (is_effective (creds_of w task) Cap.MacAdmin version) in
+      let a = through (verdict_of w version task) (not (is_live w.tasks task)) Why.NoSuchTask
+      (Part.Refuses lacks Why.NotPrivileged ∷ long) none in
+      let b = through (verdict_of w version task) lacks Why.NotPrivileged long a.1 in
+      let d = through (verdict_of w version task) (nat_lt most_relabels (length labels)) (Why.RelabelFull most_relabels) [] b.1 in
       let over : nat_lt most_relabels (length labels) ≡ true = lt-ltb most_relabels (length labels) many in
       absurd (let e : true ≡ false = sym over ∙ d.0 in cc))
 
-  pub fork_prepared : (pid : Pid) → ArePrepared c version (Task (Fork pid)) None
-  fork_prepared pid = goes_through c version (Task (Fork pid)) None
+  pub fork_prepared : (pid : Pid) → ArePrepared c version (Call.Task (TaskCall.Fork pid)) None
+  fork_prepared pid = goes_through c version (Call.Task (TaskCall.Fork pid)) None
       (λ w task low is _. ap creds_or_first (child_keeps w.tasks (task_begun pid (creds_of w task)) task low) ∙ is)
 
-  pub exit_prepared : ArePrepared c version (Task Exit) None
-  exit_prepared = goes_through c version (Task Exit) None
+  pub exit_prepared : ArePrepared c version (Call.Task TaskCall.Exit) None
+  exit_prepared = goes_through c version (Call.Task TaskCall.Exit) None
       (λ w task low is _. ap creds_or_first (change_keeps w.tasks task task _ (λ r. refl)) ∙ is)
 
-  pub kill_prepared : (pid : Pid) (sig : ℕ) → ArePrepared c version (Task (Kill pid sig)) None
-  kill_prepared pid sig = goes_through c version (Task (Kill pid sig)) None
+  pub kill_prepared : (pid : Pid) (sig : ℕ) → ArePrepared c version (Call.Task (TaskCall.Kill pid sig)) None
+  kill_prepared pid sig = goes_through c version (Call.Task (TaskCall.Kill pid sig)) None
       (λ w task low is _. ap creds_or_first (signal_keeps w.tasks (live_task w.tasks pid) sig task) ∙ is)
 
-  pub take_prepared : ArePrepared c version (Task Take) None
-  take_prepared = goes_through c version (Task Take) None
+  pub take_prepared : ArePrepared c version (Call.Task TaskCall.Take) None
+  take_prepared = goes_through c version (Call.Task TaskCall.Take) None
       (λ w task low is _. ap creds_or_first (change_keeps w.tasks task task _ (λ r. refl)) ∙ is)
 
-  pub read_prepared : (pid : Pid) → ArePrepared c version (Task (TraceRead pid)) None
-  read_prepared pid = goes_through c version (Task (TraceRead pid)) None (λ w task low is _. is)
+  pub read_prepared : (pid : Pid) → ArePrepared c version (Call.Task (TaskCall.TraceRead pid)) None
+  read_prepared pid = goes_through c version (Call.Task (TaskCall.TraceRead pid)) None (λ w task low is _. is)
 
-  pub attach_prepared : (pid : Pid) → ArePrepared c version (Task (TraceAttach pid)) None
-  attach_prepared pid = goes_through c version (Task (TraceAttach pid)) None (λ w task low is _. is)
+  pub attach_prepared : (pid : Pid) → ArePrepared c version (Call.Task (TaskCall.TraceAttach pid)) None
+  attach_prepared pid = goes_through c version (Call.Task (TaskCall.TraceAttach pid)) None (λ w task low is _. is)
 
-  pub tree_prepared : (call : TreeCall) → ArePrepared c version (Tree call) None
-  tree_prepared (Create path) = goes_through c version (Tree (Create path)) None (λ w task low is _. is)
-  tree_prepared (Unlink path) = goes_through c version (Tree (Unlink path)) None (λ w task low is _. is)
-  tree_prepared (ListDir path at) = goes_through c version (Tree (ListDir path at)) None (λ w task low is _. is)
+  pub tree_prepared : (call : TreeCall) → ArePrepared c version (Call.Tree call) None
+  tree_prepared (TreeCall.Create path) = goes_through c version (Call.Tree (TreeCall.Create path)) None (λ w task low is _. is)
+  tree_prepared (TreeCall.Unlink path) = goes_through c version (Call.Tree (TreeCall.Unlink path)) None (λ w task low is _. is)
+  tree_prepared (TreeCall.ListDir path at) = goes_through c version (Call.Tree (TreeCall.ListDir path at)) None (λ w task low is _. is)
 
 -- what is prepared for every version is so for one
 pub if_prepared : {E : Type 0} (c : Creds) (call : Call) (version : Ruling) (r : Result (Option Creds) E)

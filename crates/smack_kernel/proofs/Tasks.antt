@@ -19,7 +19,7 @@ use Rattle.smack_kernel.specs.Histories.{world_means}
 use Rattle.smack_kernel.specs.Indexes.{StandsAt, version_rows}
 use Rattle.smack_kernel.specs.Growth.{IsPublished}
 use Rattle.smack_kernel.specs.declared.publishing.Published.{Published}
-use Rattle.smack_kernel.specs.declared.publishing.Published.TheVariants as published
+use Rattle.smack_kernel.specs.declared.publishing.Published.TheVariants as Published
 use Rattle.smack_kernel.specs.declared.index.Index.{Index}
 use Rattle.smack_kernel.specs.Tasks.{ToldValue, AreSeen, IsTask, IsTold, Does, Hears, Adopts, task_of}
 use Rattle.smack_kernel.proofs.Indexes.{stands_first, stands_longer, stands_within, stands_rows}
@@ -97,9 +97,9 @@ module _ {s s' : SeatValue Entry} {rules rules' : IndexValue} {rows rows' : ℕ}
 -- what was seen when writes were judged
 module _ (number : ℕ) (ended : List ℕ) (j j' : List Batch) (h h' : List Entry) (b : Batch) (creds : Creds) where
   pub published_more : (p : Published) → IsPublished number ended j j' h h' b creds p → Begins j' j
-  published_more published.Batch q = q.grows.journal
-  published_more published.NotPrivileged q = q.0.journal
-  published_more (published.JournalFull rows) q = q.0.journal
+  published_more Published.Batch q = q.grows.journal
+  published_more Published.NotPrivileged q = q.0.journal
+  published_more (Published.JournalFull rows) q = q.0.journal
 
 -- a seat that had the pen, and has it no more, is a task
 pub task_published : {s s' : SeatValue Entry} {rules rules' : IndexValue} {rows rows' : ℕ} {creds : Creds}

@@ -5,22 +5,21 @@ use Rattle.std.proofs.lemmas.Bool.{and_parts}
 use Rattle.std.proofs.lemmas.Bool.Decides.{nat_tests}
 use Rattle.smack_base.specs.declared.ids.LabelId.{LabelId}
 use Rattle.smack_base.specs.declared.rule_op.RuleOp.{RuleOp}
-use Rattle.smack_base.specs.declared.rule_op.RuleOp.TheVariants.{Set, Change, Revoke, OnlyAdd, Ambient}
+use Rattle.smack_base.specs.declared.rule_op.RuleOp.TheVariants as RuleOp
 use Rattle.text_spec.specs.declared.BadLine.{BadLine}
-use Rattle.text_spec.specs.declared.RuleForm.TheVariants.{Long, Short}
-use Rattle.text_spec.specs.declared.RuleForm.TheVariants as form
+use Rattle.text_spec.specs.declared.RuleForm.TheVariants as RuleForm
 use Rattle.text_spec.specs.Texts.{Placed}
 use Rattle.text_spec.specs.Names.{place_of, has_name, id_of}
 use Rattle.text_spec.specs.RuleTexts.{rule_answers, subject_answers, all_words, label_answers, only_word, all_good, with_first}
 use Rattle.file_spec.specs.declared.RuleFile.{RuleFile}
-use Rattle.file_spec.specs.declared.SelfFile.TheVariants.{LoadSelf2, LoadSelf, RelabelSelf}
+use Rattle.file_spec.specs.declared.SelfFile.TheVariants as SelfFile
 use Rattle.file_spec.specs.declared.SmackFile.{SmackFile}
-use Rattle.file_spec.specs.declared.SmackFile.TheVariants.{Rule, Own}
-use Rattle.file_spec.specs.declared.RuleFile.TheVariants as file
+use Rattle.file_spec.specs.declared.SmackFile.TheVariants as SmackFile
+use Rattle.file_spec.specs.declared.RuleFile.TheVariants as RuleFile
 use Rattle.file_spec.specs.declared.Refusal.{Refusal}
-use Rattle.file_spec.specs.declared.Refusal.TheVariants as refusal
+use Rattle.file_spec.specs.declared.Refusal.TheVariants as Refusal
 use Rattle.file_spec.specs.declared.Compiled.{Compiled}
-use Rattle.file_spec.specs.declared.Compiled.TheVariants.{Rules, SelfRules, Relabels}
+use Rattle.file_spec.specs.declared.Compiled.TheVariants as Compiled
 use Rattle.file_spec.specs.Writes.{NamedWrite, NamedSet, NamedChange, NamedRevoke, NamedClear, NamedAdd, NamedAmbient, NamedPtrace, NamedLogging, file_of, read_as, line_of, set_write, change_write, digit_in, digit_or_fault, with_word, number_in, on_good, label_in, write_answers, writes_of_text}
 use Rattle.file_spec.specs.Files.{becomes, by_id, by_ids, op_of, with_first_op, ops_of, ops_of_writes, if_accepted, compiled_text, compiled_in, compiled}
 use Rattle.world_spec.specs.declared.Call.{Call}
@@ -29,17 +28,17 @@ use Rattle.live_table.specs.Lists.{Has, here, there}
 use Rattle.smack_kernel.specs.Tasks.{TaskValue}
 use Rattle.smack_kernel.specs.Answers.{ArePackedOps, IsRefused, IsTextRefused, written_call, IsOwnWritten, IsWritten}
 use Rattle.smack_kernel.specs.declared.kernel.Written.{Written}
-use Rattle.smack_kernel.specs.declared.kernel.Written.TheVariants as written
+use Rattle.smack_kernel.specs.declared.kernel.Written.TheVariants as Written
 use Rattle.smack_kernel.proofs.Counts.{rules_few, subjects_few, labels_few}
 
 -- a refusal of a text, and not of its writer or its journal
 abbrev pub IsTextual : Refusal → Type 0
-IsTextual refusal.NoSuchFile = Unit {0}
-IsTextual refusal.TooLong = Unit {0}
-IsTextual (refusal.BadLine bad) = Unit {0}
-IsTextual (refusal.UnknownLabel line) = Unit {0}
-IsTextual refusal.NotPrivileged = ⊥
-IsTextual (refusal.JournalFull rows) = ⊥
+IsTextual Refusal.NoSuchFile = Unit {0}
+IsTextual Refusal.TooLong = Unit {0}
+IsTextual (Refusal.BadLine bad) = Unit {0}
+IsTextual (Refusal.UnknownLabel line) = Unit {0}
+IsTextual Refusal.NotPrivileged = ⊥
+IsTextual (Refusal.JournalFull rows) = ⊥
 
 -- ids of a table of at most 65,535 labels
 abbrev SmallId : Option LabelId → Type 0
@@ -77,15 +76,15 @@ by_ids_good line (Some s) (Some o) make p q packs = packs s o p q
 module _ (table : List (List ℕ)) (few : length table ≤ 65535) (text : List ℕ) where
   op_good : (w : NamedWrite) → IsSmall w → GoodOp (op_of table text w)
   op_good (NamedSet s o m) p = by_ids_good (line_of text s.at) (id_of table s.bytes) (id_of table o.bytes)
-      (λ a b. Set a b m) (id_small table s.bytes few) (id_small table o.bytes few) (λ a b x y. (x, y))
+      (λ a b. RuleOp.Set a b m) (id_small table s.bytes few) (id_small table o.bytes few) (λ a b x y. (x, y))
   op_good (NamedChange s o allow deny) p = by_ids_good (line_of text s.at) (id_of table s.bytes) (id_of table o.bytes)
-      (λ a b. Change a b allow deny) (id_small table s.bytes few) (id_small table o.bytes few) (λ a b x y. (x, y))
-  op_good (NamedRevoke s) p = by_id_good (line_of text s.at) (id_of table s.bytes) (λ l. Revoke l)
+      (λ a b. RuleOp.Change a b allow deny) (id_small table s.bytes few) (id_small table o.bytes few) (λ a b x y. (x, y))
+  op_good (NamedRevoke s) p = by_id_good (line_of text s.at) (id_of table s.bytes) (λ l. RuleOp.Revoke l)
       (id_small table s.bytes few) (λ l x. x)
   op_good NamedClear p = tt
-  op_good (NamedAdd l) p = by_id_good (line_of text l.at) (id_of table l.bytes) (λ l. OnlyAdd l)
+  op_good (NamedAdd l) p = by_id_good (line_of text l.at) (id_of table l.bytes) (λ l. RuleOp.OnlyAdd l)
       (id_small table l.bytes few) (λ l x. x)
-  op_good (NamedAmbient l) p = by_id_good (line_of text l.at) (id_of table l.bytes) (λ l. Ambient l)
+  op_good (NamedAmbient l) p = by_id_good (line_of text l.at) (id_of table l.bytes) (λ l. RuleOp.Ambient l)
       (id_small table l.bytes few) (λ l x. x)
   op_good (NamedPtrace n) p = p
   op_good (NamedLogging n) p = p
@@ -183,45 +182,45 @@ one_small last make small (Err b) p = tt
 
 -- what a text spells is small, and not much
 answers_small : (f : RuleFile) (text : List ℕ) → SmallAnswers (write_answers f text)
-answers_small file.Load2 text = map_small set_write (λ x. tt) (rule_answers form.Long text)
-answers_small file.Load text = map_small set_write (λ x. tt) (rule_answers form.Short text)
-answers_small file.ChangeRule text = map_small change_write (λ x. tt) (rule_answers form.Change text)
-answers_small file.RevokeSubject text = map_small NamedRevoke (λ x. tt) (subject_answers text)
-answers_small file.Onlycap text = (tt, map_small NamedAdd (λ x. tt) (label_answers (all_words text)))
-answers_small file.Ambient text = map_small NamedAmbient (λ x. tt) (label_in text ∷ [])
-answers_small file.Ptrace text = one_small 2 NamedPtrace (λ n p. p) (number_in 2 text) (number_small 2 text)
-answers_small file.Logging text = one_small 3 NamedLogging (λ n p. p) (number_in 3 text) (number_small 3 text)
+answers_small RuleFile.Load2 text = map_small set_write (λ x. tt) (rule_answers RuleForm.Long text)
+answers_small RuleFile.Load text = map_small set_write (λ x. tt) (rule_answers RuleForm.Short text)
+answers_small RuleFile.ChangeRule text = map_small change_write (λ x. tt) (rule_answers RuleForm.Change text)
+answers_small RuleFile.RevokeSubject text = map_small NamedRevoke (λ x. tt) (subject_answers text)
+answers_small RuleFile.Onlycap text = (tt, map_small NamedAdd (λ x. tt) (label_answers (all_words text)))
+answers_small RuleFile.Ambient text = map_small NamedAmbient (λ x. tt) (label_in text ∷ [])
+answers_small RuleFile.Ptrace text = one_small 2 NamedPtrace (λ n p. p) (number_in 2 text) (number_small 2 text)
+answers_small RuleFile.Logging text = one_small 3 NamedLogging (λ n p. p) (number_in 3 text) (number_small 3 text)
 
 answers_few : (f : RuleFile) (text : List ℕ) → length text ≤ 65536 → length (write_answers f text) < 65536
-answers_few file.Load2 text l =
-    let a = rules_few form.Long text in
-    let b = length-map (rule_answers form.Long text) (on_good set_write) in omega arith
-answers_few file.Load text l =
-    let a = rules_few form.Short text in
-    let b = length-map (rule_answers form.Short text) (on_good set_write) in omega arith
-answers_few file.ChangeRule text l =
-    let a = rules_few form.Change text in
-    let b = length-map (rule_answers form.Change text) (on_good change_write) in omega arith
-answers_few file.RevokeSubject text l =
+answers_few RuleFile.Load2 text l =
+    let a = rules_few RuleForm.Long text in
+    let b = length-map (rule_answers RuleForm.Long text) (on_good set_write) in omega arith
+answers_few RuleFile.Load text l =
+    let a = rules_few RuleForm.Short text in
+    let b = length-map (rule_answers RuleForm.Short text) (on_good set_write) in omega arith
+answers_few RuleFile.ChangeRule text l =
+    let a = rules_few RuleForm.Change text in
+    let b = length-map (rule_answers RuleForm.Change text) (on_good change_write) in omega arith
+answers_few RuleFile.RevokeSubject text l =
     let a = subjects_few text in let b = length-map (subject_answers text) (on_good NamedRevoke) in omega arith
-answers_few file.Onlycap text l =
+answers_few RuleFile.Onlycap text l =
     let a = labels_few text in let b = length-map (label_answers (all_words text)) (on_good NamedAdd) in omega arith
-answers_few file.Ambient text l = omega arith
-answers_few file.Ptrace text l = omega arith
-answers_few file.Logging text l = omega arith
+answers_few RuleFile.Ambient text l = omega arith
+answers_few RuleFile.Ptrace text l = omega arith
+answers_few RuleFile.Logging text l = omega arith
 
 -- what a text becomes can be held by a batch, where it is one, and it is refused for itself alone
 abbrev pub GoodCompiled : Result Compiled Refusal → Type 0
-GoodCompiled (Ok (Rules ops)) = ArePackedOps ops
-GoodCompiled (Ok (SelfRules pairs)) = Unit {0}
-GoodCompiled (Ok (Relabels ids)) = Unit {0}
+GoodCompiled (Ok (Compiled.Rules ops)) = ArePackedOps ops
+GoodCompiled (Ok (Compiled.SelfRules pairs)) = Unit {0}
+GoodCompiled (Ok (Compiled.Relabels ids)) = Unit {0}
 GoodCompiled (Err f) = IsTextual f
 
 good_becomes : (file : SmackFile) (ops : List RuleOp) → ArePackedOps ops → GoodCompiled (Ok (becomes file ops))
-good_becomes (Rule file) ops p = p
-good_becomes (Own LoadSelf2) ops p = tt
-good_becomes (Own LoadSelf) ops p = tt
-good_becomes (Own RelabelSelf) ops p = tt
+good_becomes (SmackFile.Rule file) ops p = p
+good_becomes (SmackFile.Own SelfFile.LoadSelf2) ops p = tt
+good_becomes (SmackFile.Own SelfFile.LoadSelf) ops p = tt
+good_becomes (SmackFile.Own SelfFile.RelabelSelf) ops p = tt
 
 module _ (table : List (List ℕ)) (few : length table ≤ 65535) where
   writes_good : (file : SmackFile) (text : List ℕ) (n : ℕ) → n < 65536 → (r : Result (List NamedWrite) BadLine)
@@ -236,7 +235,7 @@ module _ (table : List (List ℕ)) (few : length table ≤ 65535) where
   in_good : (file : Option SmackFile) (text : List ℕ) → GoodCompiled (compiled_in table file text)
   in_good None text = tt
   in_good (Some file) text = (elim (nat_lt 65536 (length text)) as (λ t. nat_lt 65536 (length text) ≡ t
-      → GoodCompiled (if t then Err refusal.TooLong else compiled_text table file text)) [
+      → GoodCompiled (if t then Err Refusal.TooLong else compiled_text table file text)) [
         | true ↦ λ e. tt
         | false ↦ λ e. let short : length text ≤ 65536 = grind (arith, nat_tests) in
             writes_good file text (length (write_answers (read_as file) text)) (answers_few (read_as file) text short)
@@ -251,20 +250,20 @@ module _ (table : List (List ℕ)) (few : length table ≤ 65535) where
 pub text_refused : (labels : List (List ℕ)) (v w : TaskValue) (name text : List ℕ) (version : ℕ) (fault : Refusal)
     → IsTextual fault
     → compiled labels name text ≡ Err fault → IsTextRefused v w version → IsRefused labels v w name text version fault
-text_refused labels v w name text version refusal.NoSuchFile t e r = (e, r)
-text_refused labels v w name text version refusal.TooLong t e r = (e, r)
-text_refused labels v w name text version (refusal.BadLine bad) t e r = (e, r)
-text_refused labels v w name text version (refusal.UnknownLabel line) t e r = (e, r)
-text_refused labels v w name text version refusal.NotPrivileged t e r = absurd t
-text_refused labels v w name text version (refusal.JournalFull rows) t e r = absurd t
+text_refused labels v w name text version Refusal.NoSuchFile t e r = (e, r)
+text_refused labels v w name text version Refusal.TooLong t e r = (e, r)
+text_refused labels v w name text version (Refusal.BadLine bad) t e r = (e, r)
+text_refused labels v w name text version (Refusal.UnknownLabel line) t e r = (e, r)
+text_refused labels v w name text version Refusal.NotPrivileged t e r = absurd t
+text_refused labels v w name text version (Refusal.JournalFull rows) t e r = absurd t
 
 -- a text that is an object call is written by it
 pub own_written : {E : Type 0} (labels : List (List ℕ)) (v w : TaskValue) (name text : List ℕ) (call : Call)
     → written_call (compiled labels name text) ≡ Some call → (r : Result Written E) → IfOk r (IsOwnWritten v w call)
     → IfOk r (IsWritten labels v w name text)
-own_written labels v w name text call is (Ok (written.Batch version)) p = absurd p
-own_written labels v w name text call is (Ok (written.Entry e)) p = (p.0, (call, is, p.1))
-own_written labels v w name text call is (Ok (written.Refused version fault)) p = absurd p
-own_written labels v w name text call is (Ok written.TrailFull) p = (p, (call, is))
-own_written labels v w name text call is (Ok written.SeqFull) p = p
+own_written labels v w name text call is (Ok (Written.Batch version)) p = absurd p
+own_written labels v w name text call is (Ok (Written.Entry e)) p = (p.0, (call, is, p.1))
+own_written labels v w name text call is (Ok (Written.Refused version fault)) p = absurd p
+own_written labels v w name text call is (Ok Written.TrailFull) p = (p, (call, is))
+own_written labels v w name text call is (Ok Written.SeqFull) p = p
 own_written labels v w name text call is (Err e) p = tt

@@ -24,7 +24,7 @@ use Rattle.smack_kernel.specs.Indexes.{StandsAt}
 use Rattle.smack_kernel.specs.Growth.{Grows, Enters, entry_of}
 use Rattle.smack_kernel.specs.declared.turns.Entered.{Entered}
 use Rattle.smack_kernel.specs.declared.turns.Turned.{Turned}
-use Rattle.smack_kernel.specs.declared.turns.Turned.TheVariants as turned
+use Rattle.smack_kernel.specs.declared.turns.Turned.TheVariants as Turned
 use Rattle.smack_kernel.specs.Tasks.{AreSeen, IsTask, Stays, Calls, task_of}
 use Rattle.smack_kernel.specs.Turns.{IsMade, IsTurned}
 use Rattle.smack_kernel.specs.Forks.{task_made}
@@ -40,13 +40,13 @@ Outcome E = Result Turned E
 
 -- the entries that a call made
 abbrev pub entries_made : {E : Type 0} → ℕ → ℕ → Call → Outcome E → List Entry
-entries_made task seq call (Ok (turned.Entry r)) = entry_of task seq call r.version r.checks r.reply ∷ []
-entries_made task seq call (Ok (turned.TrailFull back)) = []
+entries_made task seq call (Ok (Turned.Entry r)) = entry_of task seq call r.version r.checks r.reply ∷ []
+entries_made task seq call (Ok (Turned.TrailFull back)) = []
 entries_made task seq call (Err e) = []
 
 -- what a call makes of a world that stands over a journal
 module _ (journal : List Batch) (m m' : WorldValue) (task seq : ℕ) (call : Call) where
-  made_entry : (r : Entered) → IsMade m m' (ruling journal) task seq call (turned.Entry r)
+  made_entry : (r : Entered) → IsMade m m' (ruling journal) task seq call (Turned.Entry r)
       → entry_of task seq call r.version r.checks r.reply ≡ stepping.entry_of m (ruling journal) task seq call
   made_entry r h =
       let stepped = h.0 in
@@ -54,28 +54,28 @@ module _ (journal : List Batch) (m m' : WorldValue) (task seq : ℕ) (call : Cal
 
   pub trail_made : {E : Type 0} (r : Outcome E) → IfOk r (IsMade m m' (ruling journal) task seq call) → OnErr r (m' ≡ m)
       → m'.trail ≡ m.trail ++ entries_made task seq call r
-  trail_made (Ok (turned.Entry r)) h none =
+  trail_made (Ok (Turned.Entry r)) h none =
       ap (λ (z : WorldValue). z.trail) h.0.1 ∙ ap (λ e. m.trail ++ e ∷ []) (sym (made_entry r h))
-  trail_made (Ok (turned.TrailFull back)) h none = ap (λ (z : WorldValue). z.trail) h.1 ∙ sym (append-nil m.trail)
+  trail_made (Ok (Turned.TrailFull back)) h none = ap (λ (z : WorldValue). z.trail) h.1 ∙ sym (append-nil m.trail)
   trail_made (Err e) h none = ap (λ (z : WorldValue). z.trail) none ∙ sym (append-nil m.trail)
 
   pub alive_made : {E : Type 0} (r : Outcome E) → IfOk r (IsMade m m' (ruling journal) task seq call) → OnErr r (m' ≡ m) → (k : ℕ)
       → k < length m.world.tasks → k < length m'.world.tasks
-  alive_made (Ok (turned.Entry r)) h none k low = subst (λ (z : WorldValue). k < length z.world.tasks) (sym h.0.1)
+  alive_made (Ok (Turned.Entry r)) h none k low = subst (λ (z : WorldValue). k < length z.world.tasks) (sym h.0.1)
       (step_alive m.world (ruling journal) task call k low)
-  alive_made (Ok (turned.TrailFull back)) h none k low =
+  alive_made (Ok (Turned.TrailFull back)) h none k low =
       subst (λ (z : WorldValue). k < length z.world.tasks) (sym h.1) low
   alive_made (Err e) h none k low = subst (λ (z : WorldValue). k < length z.world.tasks) (sym none) low
 
   -- a call that is no fork makes no task
-  none_made : (r : Entered) → IsMade m m' (ruling journal) task seq call (turned.Entry r) → is_fork call ≡ false
+  none_made : (r : Entered) → IsMade m m' (ruling journal) task seq call (Turned.Entry r) → is_fork call ≡ false
       → child_of r.reply ≡ None
   none_made r h plain = ap child_of h.0.4 ∙ next_plain _ _ _ _ (step_makes m.world (ruling journal) task call) plain
 
   pub plain_made : {E : Type 0} (r : Outcome E) → IfOk r (IsMade m m' (ruling journal) task seq call)
       → is_fork call ≡ false → IfOk r (λ q. task_made q ≡ None)
-  plain_made (Ok (turned.Entry r)) h plain = none_made r h plain
-  plain_made (Ok (turned.TrailFull back)) h plain = refl
+  plain_made (Ok (Turned.Entry r)) h plain = none_made r h plain
+  plain_made (Ok (Turned.TrailFull back)) h plain = refl
   plain_made (Err e) h plain = tt
 
 -- a task takes the turn: it then has this view, and the machine is the world x
@@ -172,7 +172,7 @@ module _ {s : SeatValue Entry} {rules : IndexValue} {rows : ℕ} {creds : Creds}
 
       entry : (r : Outcome E) → IfOk r (λ q. task_made q ≡ None) → IfOk r (IsMade x m' (ruling w.journal) s.number seq call)
           → Rattle.live_table.specs.Plays.IsTurn world_means w m' (entries_made s.number seq call r)
-      entry (Ok (turned.Entry r)) childless made = record {
+      entry (Ok (Turned.Entry r)) childless made = record {
         number = s.number;
         ended = rest_of s.view.numbers;
         numbers = turn_numbers;
@@ -182,7 +182,7 @@ module _ {s : SeatValue Entry} {rules : IndexValue} {rows : ℕ} {creds : Creds}
         no_child = λ _. childless;
         child = λ e. absurd (let f : true ≡ false = sym e ∙ quiet in cc);
       }
-      entry (Ok (turned.TrailFull back)) childless made = quiet
+      entry (Ok (Turned.TrailFull back)) childless made = quiet
       entry (Err e) childless made = quiet
 
 -- what a seat is that gave the turn back with a world that stands for what it has seen
@@ -296,7 +296,7 @@ module _ {E : Type 0} {s s1 s3 : SeatValue Entry} {rules rules' : IndexValue} {r
     where
       by : (q : Result Turned (E × Call)) → r ≡ q
           → IfOk q (IsTurned (task_of s rules made creds) (task_of s3 rules' made creds') call)
-      by (Ok (turned.Entry e)) is_q =
+      by (Ok (Turned.Entry e)) is_q =
           let m = subst (λ z. IfOk z (IsMade x m' (ruling s1.view.journal) s.number (made + 1) call)) is_q is_made in
           let all = subst (λ z. OnOk z (rules'.version ≡ length s1.view.journal)) is_q whole in
           let entry = entry_of s.number (made + 1) call e.version e.checks e.reply in
@@ -304,7 +304,7 @@ module _ {E : Type 0} {s s1 s3 : SeatValue Entry} {rules rules' : IndexValue} {r
           history ∙ ap (λ z. s1.view.history ++ entries_made s.number (made + 1) call z) is_q in
           turn_calls task task_turned made table number numbers later call e (m.1 ∙ sym all)
           (turn_enters task s1.view x t s3.view entry e.place refl ends more no_batch m.0.0 m.0.2 m.1 m.0.3 m.0.4)
-      by (Ok (turned.TrailFull back)) is_q =
+      by (Ok (Turned.TrailFull back)) is_q =
           let m = subst (λ z. IfOk z (IsMade x m' (ruling s1.view.journal) s.number (made + 1) call)) is_q is_made in
           let empty = ap (entries_made s.number (made + 1) call) is_q in
           let same : s3.view.history ≡ x.trail = history

@@ -8,17 +8,17 @@ use Rattle.rules_spec.specs.declared.Verdict.{Verdict}
 use Rattle.rules_spec.specs.Rulings.{Ruling}
 use Rattle.rules_spec.specs.Creds.{Creds}
 use Rattle.world_spec.specs.declared.Call.{Call}
-use Rattle.world_spec.specs.declared.Call.TheVariants.{Task, Tree}
-use Rattle.world_spec.specs.declared.TaskCall.TheVariants.{Fork, Exit, Relabel, DropCap, SelfRules, Relabels, Kill, Take, TraceRead, TraceAttach}
-use Rattle.world_spec.specs.declared.TreeCall.TheVariants.{Create, Unlink, ListDir}
+use Rattle.world_spec.specs.declared.Call.TheVariants as Call
+use Rattle.world_spec.specs.declared.TaskCall.TheVariants as TaskCall
+use Rattle.world_spec.specs.declared.TreeCall.TheVariants as TreeCall
 use Rattle.world_spec.specs.declared.Entry.{Entry}
 use Rattle.world_spec.specs.declared.Part.{Part}
-use Rattle.world_spec.specs.declared.Part.TheVariants.{Refuses, Asks}
+use Rattle.world_spec.specs.declared.Part.TheVariants as Part
 use Rattle.world_spec.specs.declared.Question.{Question}
 use Rattle.world_spec.specs.declared.Why.{Why}
-use Rattle.world_spec.specs.declared.Why.TheVariants.{NoSuchTask, Exists, TasksFull}
+use Rattle.world_spec.specs.declared.Why.TheVariants as Why
 use Rattle.world_spec.specs.declared.Reply.{Reply}
-use Rattle.world_spec.specs.declared.Reply.TheVariants.{Ok as Done, Child, Signal, Names, Denied, Refused}
+use Rattle.world_spec.specs.declared.Reply.TheVariants as Reply
 use Rattle.world_spec.specs.Worlds.{World, TaskRow, world_first, creds_of, changed_at, live_task, is_live, was_made, task_begun, pending_of, most_tasks}
 use Rattle.world_spec.specs.Signals.{least_signal}
 use Rattle.world_spec.specs.Questions.{asks}
@@ -35,12 +35,12 @@ use Rattle.smack_kernel.specs.Answers.{is_fork}
 
 -- a reply that ends a call before its effect
 abbrev pub IsStop : Reply → Type 0
-IsStop Done = ⊥
-IsStop (Child n) = ⊥
-IsStop (Signal sig) = ⊥
-IsStop (Names count names) = ⊥
-IsStop (Denied case) = Unit {0}
-IsStop (Refused why) = Unit {0}
+IsStop Reply.Ok = ⊥
+IsStop (Reply.Child n) = ⊥
+IsStop (Reply.Signal sig) = ⊥
+IsStop (Reply.Names count names) = ⊥
+IsStop (Reply.Denied case) = Unit {0}
+IsStop (Reply.Refused why) = Unit {0}
 
 abbrev pub Stops : Option Reply → Type 0
 Stops None = Unit {0}
@@ -55,18 +55,18 @@ either_stops false x y p q = q
 
 asked_stops : (v : Verdict) (more : Went) → Stops more.stop → Stops (asked v more).stop
 asked_stops v more h = either_stops v.allowed (record { checks = v ∷ more.checks; stop = more.stop })
-    (record { checks = v ∷ []; stop = Some (Denied v.case) }) h tt
+    (record { checks = v ∷ []; stop = Some (Reply.Denied v.case) }) h tt
 
 pub went_stops : (verdict : Question → Verdict) (parts : List Part) → Stops (went verdict parts).stop
 went_stops verdict [] = tt
-went_stops verdict (Refuses true why ∷ more) = tt
-went_stops verdict (Refuses false why ∷ more) = went_stops verdict more
-went_stops verdict (Asks q ∷ more) = asked_stops (verdict q) (went verdict more) (went_stops verdict more)
+went_stops verdict (Part.Refuses true why ∷ more) = tt
+went_stops verdict (Part.Refuses false why ∷ more) = went_stops verdict more
+went_stops verdict (Part.Asks q ∷ more) = asked_stops (verdict q) (went verdict more) (went_stops verdict more)
 
 -- a part that does not refuse
 pub through : (verdict : Question → Verdict) (holds : Bool) (why : Why) (more : List Part)
-    → (went verdict (Refuses holds why ∷ more)).stop ≡ None → (holds ≡ false) × ((went verdict more).stop ≡ None)
-through verdict true why more e = absurd (let e' : ◌≡◌ {A = Option Reply} (Some (Refused why)) None = e in cc)
+    → (went verdict (Part.Refuses holds why ∷ more)).stop ≡ None → (holds ≡ false) × ((went verdict more).stop ≡ None)
+through verdict true why more e = absurd (let e' : ◌≡◌ {A = Option Reply} (Some (Reply.Refused why)) None = e in cc)
 through verdict false why more e = (refl, e)
 
 -- The tasks before were n and are m: one more with the next number, where the call is a fork and replies a child, and
@@ -95,35 +95,35 @@ effect_makes : (w : World) (version : Ruling) (task : ℕ) (call : Call)
     → (went (verdict_of w version task) (asks w version task call)).stop ≡ None
     → MakesNext (length w.tasks) (is_fork call) (child_of (effect w version task call).reply)
     (length (effect w version task call).world.tasks)
-effect_makes w version task (Task (Fork pid)) none =
-    let full = Refuses (nat_le most_tasks (length w.tasks)) (TasksFull most_tasks) ∷ [] in
-    let a = through (verdict_of w version task) (not (is_live w.tasks task)) NoSuchTask
-    (Refuses (was_made w.tasks pid) Exists ∷ full) none in
-    let b = through (verdict_of w version task) (was_made w.tasks pid) Exists full a.1 in
-    let c = through (verdict_of w version task) (nat_le most_tasks (length w.tasks)) (TasksFull most_tasks) [] b.1 in
+effect_makes w version task (Call.Task (TaskCall.Fork pid)) none =
+    let full = Part.Refuses (nat_le most_tasks (length w.tasks)) (Why.TasksFull most_tasks) ∷ [] in
+    let a = through (verdict_of w version task) (not (is_live w.tasks task)) Why.NoSuchTask
+    (Part.Refuses (was_made w.tasks pid) Why.Exists ∷ full) none in
+    let b = through (verdict_of w version task) (was_made w.tasks pid) Why.Exists full a.1 in
+    let c = through (verdict_of w version task) (nat_le most_tasks (length w.tasks)) (Why.TasksFull most_tasks) [] b.1 in
     let l = length-append w.tasks (task_begun pid (creds_of w task) ∷ []) in
     (refl, omega arith, few_tasks (length w.tasks) c.0, refl)
-effect_makes w version task (Task Exit) none = length_changed w.tasks task _
-effect_makes w version task (Task (Relabel l)) none = length_changed w.tasks task _
-effect_makes w version task (Task (DropCap cap)) none = length_changed w.tasks task _
-effect_makes w version task (Task (SelfRules rules)) none = length_changed w.tasks task _
-effect_makes w version task (Task (Relabels labels)) none = length_changed w.tasks task _
-effect_makes w version task (Task (Kill pid sig)) none = length_signalled w.tasks (live_task w.tasks pid) sig
-effect_makes w version task (Task Take) none =
+effect_makes w version task (Call.Task TaskCall.Exit) none = length_changed w.tasks task _
+effect_makes w version task (Call.Task (TaskCall.Relabel l)) none = length_changed w.tasks task _
+effect_makes w version task (Call.Task (TaskCall.DropCap cap)) none = length_changed w.tasks task _
+effect_makes w version task (Call.Task (TaskCall.SelfRules rules)) none = length_changed w.tasks task _
+effect_makes w version task (Call.Task (TaskCall.Relabels labels)) none = length_changed w.tasks task _
+effect_makes w version task (Call.Task (TaskCall.Kill pid sig)) none = length_signalled w.tasks (live_task w.tasks pid) sig
+effect_makes w version task (Call.Task TaskCall.Take) none =
     signal_makes (length w.tasks) false _ (least_signal (pending_of w task)) (length_changed w.tasks task _)
-effect_makes w version task (Task (TraceRead pid)) none = refl
-effect_makes w version task (Task (TraceAttach pid)) none = refl
-effect_makes w version task (Tree (Create path)) none = refl
-effect_makes w version task (Tree (Unlink path)) none = refl
-effect_makes w version task (Tree (ListDir path at)) none = refl
+effect_makes w version task (Call.Task (TaskCall.TraceRead pid)) none = refl
+effect_makes w version task (Call.Task (TaskCall.TraceAttach pid)) none = refl
+effect_makes w version task (Call.Tree (TreeCall.Create path)) none = refl
+effect_makes w version task (Call.Tree (TreeCall.Unlink path)) none = refl
+effect_makes w version task (Call.Tree (TreeCall.ListDir path at)) none = refl
 
 pub stop_child : (reply : Reply) → IsStop reply → child_of reply ≡ None
-stop_child Done s = absurd s
-stop_child (Child n) s = absurd s
-stop_child (Signal sig) s = absurd s
-stop_child (Names count names) s = absurd s
-stop_child (Denied case) s = refl
-stop_child (Refused why) s = refl
+stop_child Reply.Ok s = absurd s
+stop_child (Reply.Child n) s = absurd s
+stop_child (Reply.Signal sig) s = absurd s
+stop_child (Reply.Names count names) s = absurd s
+stop_child (Reply.Denied case) s = refl
+stop_child (Reply.Refused why) s = refl
 
 stepped_makes : (w : World) (fork : Bool) (e : Effect) (checks : List Verdict) (stop : Option Reply) → Stops stop
     → (stop ≡ None → MakesNext (length w.tasks) fork (child_of e.reply) (length e.world.tasks))
@@ -157,12 +157,12 @@ next_plain n fork (Some k) m h plain = absurd (let is = h.3 in let e : true ≡ 
 
 unmade : (reply : Reply) (n : ℕ) (fork : Bool) (m k : ℕ) → MakesNext n fork (child_of reply) m → k < n
     → makes k reply ≡ false
-unmade Done n fork m k h l = refl
-unmade (Child x) n fork m k h l = ne_eqb x k (λ e. let is = h.0 in absurd (omega arith))
-unmade (Signal sig) n fork m k h l = refl
-unmade (Names count names) n fork m k h l = refl
-unmade (Denied case) n fork m k h l = refl
-unmade (Refused why) n fork m k h l = refl
+unmade Reply.Ok n fork m k h l = refl
+unmade (Reply.Child x) n fork m k h l = ne_eqb x k (λ e. let is = h.0 in absurd (omega arith))
+unmade (Reply.Signal sig) n fork m k h l = refl
+unmade (Reply.Names count names) n fork m k h l = refl
+unmade (Reply.Denied case) n fork m k h l = refl
+unmade (Reply.Refused why) n fork m k h l = refl
 
 -- a task that a step finds stays
 pub step_alive : (w : World) (version : Ruling) (task : ℕ) (call : Call) (k : ℕ) → k < length w.tasks

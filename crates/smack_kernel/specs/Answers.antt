@@ -3,22 +3,21 @@ use Rattle.smack_base.specs.declared.rule_op.RuleOp.{RuleOp}
 use Rattle.smack_base.specs.declared.ids.LabelId.{LabelId}
 use Rattle.smack_base.specs.declared.ids.Pid.{Pid}
 use Rattle.smack_base.specs.declared.modes.Modes.{Modes}
-use Rattle.smack_base.specs.declared.cap.Cap.TheVariants.{MacAdmin}
+use Rattle.smack_base.specs.declared.cap.Cap.TheVariants as Cap
 use Rattle.rules_spec.specs.declared.Batch.{Batch}
 use Rattle.rules_spec.specs.Rulings.{ruling}
 use Rattle.rules_spec.specs.Cases.{verdict_of_cases}
 use Rattle.rules_spec.specs.Creds.{is_effective}
 use Rattle.file_spec.specs.declared.Refusal.{Refusal}
-use Rattle.file_spec.specs.declared.Refusal.TheVariants as refusal
+use Rattle.file_spec.specs.declared.Refusal.TheVariants as Refusal
 use Rattle.file_spec.specs.declared.Compiled.{Compiled}
-use Rattle.file_spec.specs.declared.Compiled.TheVariants.{Rules}
-use Rattle.file_spec.specs.declared.Compiled.TheVariants as compiles
+use Rattle.file_spec.specs.declared.Compiled.TheVariants as Compiled
 use Rattle.file_spec.specs.Files.{compiled}
 use Rattle.world_spec.specs.declared.Call.{Call}
-use Rattle.world_spec.specs.declared.Call.TheVariants.{Task, Tree}
-use Rattle.world_spec.specs.declared.TaskCall.TheVariants.{Fork, Exit, Relabel, DropCap, SelfRules, Relabels, Kill, Take, TraceRead, TraceAttach}
+use Rattle.world_spec.specs.declared.Call.TheVariants as Call
+use Rattle.world_spec.specs.declared.TaskCall.TheVariants as TaskCall
 use Rattle.world_spec.specs.declared.Entry.{Entry}
-use Rattle.world_spec.specs.declared.Reply.TheVariants.{Child}
+use Rattle.world_spec.specs.declared.Reply.TheVariants as Reply
 use Rattle.world_spec.specs.Worlds.{world_first}
 use Rattle.rule_word.specs.Layout.{IsPackable}
 use Rattle.live_table.specs.Lists.{Has}
@@ -31,11 +30,11 @@ use Rattle.smack_kernel.specs.Histories.{world_means, child_of}
 use Rattle.smack_kernel.specs.Growth.{Publishes, batch_of}
 use Rattle.smack_kernel.specs.Tasks.{TaskValue, Does, Stays, Answers, Calls, Starts, most_calls}
 use Rattle.smack_kernel.specs.declared.kernel.Asked.{Asked}
-use Rattle.smack_kernel.specs.declared.kernel.Asked.TheVariants as asked
+use Rattle.smack_kernel.specs.declared.kernel.Asked.TheVariants as Asked
 use Rattle.smack_kernel.specs.declared.kernel.Called.{Called}
-use Rattle.smack_kernel.specs.declared.kernel.Called.TheVariants as called
+use Rattle.smack_kernel.specs.declared.kernel.Called.TheVariants as Called
 use Rattle.smack_kernel.specs.declared.kernel.Written.{Written}
-use Rattle.smack_kernel.specs.declared.kernel.Written.TheVariants as written
+use Rattle.smack_kernel.specs.declared.kernel.Written.TheVariants as Written
 
 -- the task has made as many calls as it may, and nothing changes
 abbrev pub IsSeqFull : TaskValue → TaskValue → Type 0
@@ -43,23 +42,23 @@ IsSeqFull v w = (v.made ≡ most_calls) × (w ≡ v)
 
 -- a question is answered by the ordered cases, in the version that the task has then seen whole
 abbrev pub IsAsked : TaskValue → TaskValue → LabelId → LabelId → Modes → Asked → Type 0
-IsAsked v w s o m (asked.Verdict version verdict) =
+IsAsked v w s o m (Asked.Verdict version verdict) =
     (v.made < most_calls) × Answers v w version × (verdict ≡ verdict_of_cases (ruling w.journal) s o m)
-IsAsked v w s o m asked.SeqFull = IsSeqFull v w
+IsAsked v w s o m Asked.SeqFull = IsSeqFull v w
 
 -- whether the call is a fork
 abbrev pub is_fork : Call → Bool
-is_fork (Task (Fork pid)) = true
-is_fork (Task Exit) = false
-is_fork (Task (Relabel l)) = false
-is_fork (Task (DropCap cap)) = false
-is_fork (Task (SelfRules rules)) = false
-is_fork (Task (Relabels labels)) = false
-is_fork (Task (Kill pid sig)) = false
-is_fork (Task Take) = false
-is_fork (Task (TraceRead pid)) = false
-is_fork (Task (TraceAttach pid)) = false
-is_fork (Tree call) = false
+is_fork (Call.Task (TaskCall.Fork pid)) = true
+is_fork (Call.Task TaskCall.Exit) = false
+is_fork (Call.Task (TaskCall.Relabel l)) = false
+is_fork (Call.Task (TaskCall.DropCap cap)) = false
+is_fork (Call.Task (TaskCall.SelfRules rules)) = false
+is_fork (Call.Task (TaskCall.Relabels labels)) = false
+is_fork (Call.Task (TaskCall.Kill pid sig)) = false
+is_fork (Call.Task TaskCall.Take) = false
+is_fork (Call.Task (TaskCall.TraceRead pid)) = false
+is_fork (Call.Task (TaskCall.TraceAttach pid)) = false
+is_fork (Call.Tree call) = false
 
 -- the history has as many entries as it may, and the task makes none
 abbrev pub IsTrailFull : TaskValue → TaskValue → Type 0
@@ -67,20 +66,20 @@ IsTrailFull v w = (v.made < most_calls) × Stays v w × (length w.history ≡ mo
 
 -- an object call is made; where the history or the count of calls is full it comes back
 abbrev pub IsCalled : TaskValue → TaskValue → Call → Called → Type 0
-IsCalled v w call (called.Entry r) = (v.made < most_calls) × Calls v w call r
-IsCalled v w call (called.TrailFull back) = IsTrailFull v w × (back ≡ call)
-IsCalled v w call (called.SeqFull back) = IsSeqFull v w × (back ≡ call)
+IsCalled v w call (Called.Entry r) = (v.made < most_calls) × Calls v w call r
+IsCalled v w call (Called.TrailFull back) = IsTrailFull v w × (back ≡ call)
+IsCalled v w call (Called.SeqFull back) = IsSeqFull v w × (back ≡ call)
 
 -- a fork is made: the child is there exactly where the reply is its number
 abbrev pub IsForked : TaskValue → TaskValue → Pid → Called → Option TaskValue → Type 0
-IsForked v w pid (called.Entry r) None =
-    (v.made < most_calls) × Calls v w (Task (Fork pid)) r × (child_of r.reply ≡ None)
-IsForked v w pid (called.Entry r) (Some c) =
-    (v.made < most_calls) × Calls v w (Task (Fork pid)) r × (r.reply ≡ Child c.number) × Starts w c c.number
-IsForked v w pid (called.TrailFull back) None = IsTrailFull v w × (back ≡ Task (Fork pid))
-IsForked v w pid (called.TrailFull back) (Some c) = ⊥
-IsForked v w pid (called.SeqFull back) None = IsSeqFull v w × (back ≡ Task (Fork pid))
-IsForked v w pid (called.SeqFull back) (Some c) = ⊥
+IsForked v w pid (Called.Entry r) None =
+    (v.made < most_calls) × Calls v w (Call.Task (TaskCall.Fork pid)) r × (child_of r.reply ≡ None)
+IsForked v w pid (Called.Entry r) (Some c) =
+    (v.made < most_calls) × Calls v w (Call.Task (TaskCall.Fork pid)) r × (r.reply ≡ Reply.Child c.number) × Starts w c c.number
+IsForked v w pid (Called.TrailFull back) None = IsTrailFull v w × (back ≡ Call.Task (TaskCall.Fork pid))
+IsForked v w pid (Called.TrailFull back) (Some c) = ⊥
+IsForked v w pid (Called.SeqFull back) None = IsSeqFull v w × (back ≡ Call.Task (TaskCall.Fork pid))
+IsForked v w pid (Called.SeqFull back) (Some c) = ⊥
 
 -- a batch of a text is published: it ends the seen journal, and the index stands for it
 pub record Wrote (v w : TaskValue) (ops : List RuleOp) (version : ℕ) : Type 0 where
@@ -97,24 +96,24 @@ ArePackedOps ops = (length ops < 65536) × ((op : RuleOp) → Has op ops → IsP
 
 -- what came of the writes of a good text
 abbrev pub IsOpsWritten : TaskValue → TaskValue → List RuleOp → Written → Type 0
-IsOpsWritten v w ops (written.Batch version) = Wrote v w ops version
-IsOpsWritten v w ops (written.Refused version refusal.NotPrivileged) =
-    Answers v w version × (is_effective v.creds MacAdmin (ruling w.journal) ≡ false)
-IsOpsWritten v w ops (written.Refused version (refusal.JournalFull rows)) =
-    Answers v w version × (is_effective v.creds MacAdmin (ruling w.journal) ≡ true)
+IsOpsWritten v w ops (Written.Batch version) = Wrote v w ops version
+IsOpsWritten v w ops (Written.Refused version Refusal.NotPrivileged) =
+    Answers v w version × (is_effective v.creds Cap.MacAdmin (ruling w.journal) ≡ false)
+IsOpsWritten v w ops (Written.Refused version (Refusal.JournalFull rows)) =
+    Answers v w version × (is_effective v.creds Cap.MacAdmin (ruling w.journal) ≡ true)
     × (rows ≡ rows_of w.journal) × (row_count < rows + length ops + 1)
-IsOpsWritten v w ops (written.Refused version fault) = ⊥
-IsOpsWritten v w ops (written.Entry r) = ⊥
-IsOpsWritten v w ops written.TrailFull = ⊥
-IsOpsWritten v w ops written.SeqFull = ⊥
+IsOpsWritten v w ops (Written.Refused version fault) = ⊥
+IsOpsWritten v w ops (Written.Entry r) = ⊥
+IsOpsWritten v w ops Written.TrailFull = ⊥
+IsOpsWritten v w ops Written.SeqFull = ⊥
 
 -- what came of a good text that is an object call
 abbrev pub IsOwnWritten : TaskValue → TaskValue → Call → Written → Type 0
-IsOwnWritten v w call (written.Batch version) = ⊥
-IsOwnWritten v w call (written.Entry r) = (v.made < most_calls) × Calls v w call r
-IsOwnWritten v w call (written.Refused version fault) = ⊥
-IsOwnWritten v w call written.TrailFull = IsTrailFull v w
-IsOwnWritten v w call written.SeqFull = IsSeqFull v w
+IsOwnWritten v w call (Written.Batch version) = ⊥
+IsOwnWritten v w call (Written.Entry r) = (v.made < most_calls) × Calls v w call r
+IsOwnWritten v w call (Written.Refused version fault) = ⊥
+IsOwnWritten v w call Written.TrailFull = IsTrailFull v w
+IsOwnWritten v w call Written.SeqFull = IsSeqFull v w
 
 -- a text is refused: the call is counted, and nothing else changes
 abbrev pub IsTextRefused : TaskValue → TaskValue → ℕ → Type 0
@@ -123,34 +122,34 @@ IsTextRefused v w version = (w ≡ record v { made = v.made + 1 }) × (version �
 -- A text that does not become rules is refused for it. One that does is refused where CAP_MAC_ADMIN is not effective in
 -- the version that is seen with the pen, and else where the journal has no room.
 abbrev pub IsRefused : List (List ℕ) → TaskValue → TaskValue → List ℕ → List ℕ → ℕ → Refusal → Type 0
-IsRefused labels v w file text version refusal.NotPrivileged =
-    (ops : List RuleOp) × (compiled labels file text ≡ Ok (Rules ops)) × Answers v w version
-    × (is_effective v.creds MacAdmin (ruling w.journal) ≡ false)
-IsRefused labels v w file text version (refusal.JournalFull rows) =
-    (ops : List RuleOp) × (compiled labels file text ≡ Ok (Rules ops)) × Answers v w version
-    × (is_effective v.creds MacAdmin (ruling w.journal) ≡ true) × (rows ≡ rows_of w.journal)
+IsRefused labels v w file text version Refusal.NotPrivileged =
+    (ops : List RuleOp) × (compiled labels file text ≡ Ok (Compiled.Rules ops)) × Answers v w version
+    × (is_effective v.creds Cap.MacAdmin (ruling w.journal) ≡ false)
+IsRefused labels v w file text version (Refusal.JournalFull rows) =
+    (ops : List RuleOp) × (compiled labels file text ≡ Ok (Compiled.Rules ops)) × Answers v w version
+    × (is_effective v.creds Cap.MacAdmin (ruling w.journal) ≡ true) × (rows ≡ rows_of w.journal)
     × (row_count < rows + length ops + 1)
 IsRefused labels v w file text version fault = (compiled labels file text ≡ Err fault) × IsTextRefused v w version
 
 -- the call that a text becomes which is written to a file of the writing task's own rules
 abbrev pub written_call : Result Compiled Refusal → Option Call
-written_call (Ok (compiles.Rules ops)) = None
-written_call (Ok (compiles.SelfRules rules)) = Some (Task (SelfRules rules))
-written_call (Ok (compiles.Relabels labels)) = Some (Task (Relabels labels))
+written_call (Ok (Compiled.Rules ops)) = None
+written_call (Ok (Compiled.SelfRules rules)) = Some (Call.Task (TaskCall.SelfRules rules))
+written_call (Ok (Compiled.Relabels labels)) = Some (Call.Task (TaskCall.Relabels labels))
 written_call (Err fault) = None
 
 -- A text is written: to a file of rules or settings it becomes a batch, and to one of the task's own rules it becomes an
 -- object call.
 abbrev pub IsWritten : List (List ℕ) → TaskValue → TaskValue → List ℕ → List ℕ → Written → Type 0
-IsWritten labels v w file text (written.Batch version) =
-    (v.made < most_calls) × ((ops : List RuleOp) × (compiled labels file text ≡ Ok (Rules ops)) × Wrote v w ops version)
-IsWritten labels v w file text (written.Entry r) =
+IsWritten labels v w file text (Written.Batch version) =
+    (v.made < most_calls) × ((ops : List RuleOp) × (compiled labels file text ≡ Ok (Compiled.Rules ops)) × Wrote v w ops version)
+IsWritten labels v w file text (Written.Entry r) =
     (v.made < most_calls) × ((call : Call) × (written_call (compiled labels file text) ≡ Some call) × Calls v w call r)
-IsWritten labels v w file text (written.Refused version fault) =
+IsWritten labels v w file text (Written.Refused version fault) =
     (v.made < most_calls) × IsRefused labels v w file text version fault
-IsWritten labels v w file text written.TrailFull =
+IsWritten labels v w file text Written.TrailFull =
     IsTrailFull v w × ((call : Call) × (written_call (compiled labels file text) ≡ Some call))
-IsWritten labels v w file text written.SeqFull = IsSeqFull v w
+IsWritten labels v w file text Written.SeqFull = IsSeqFull v w
 
 -- a mark is counted, and answers the version of the index
 abbrev pub IsMarked : TaskValue → TaskValue → ℕ → Type 0

@@ -3,19 +3,19 @@ use Rattle.rules_spec.specs.Rulings.{Ruling}
 use Rattle.rules_spec.specs.Creds.{Creds}
 use Rattle.world_spec.specs.declared.Call.{Call}
 use Rattle.world_spec.specs.declared.Reply.{Reply}
-use Rattle.world_spec.specs.declared.Reply.TheVariants.{Ok as Done, Child, Signal, Names, Denied, Refused}
+use Rattle.world_spec.specs.declared.Reply.TheVariants as Reply
 use Rattle.world_spec.specs.Worlds.{World, creds_of}
 use Rattle.world_spec.specs.Steps.{step}
 
 -- the credentials after a call with this reply, where these were prepared for it
 abbrev pub creds_left : Option Creds → Creds → Reply → Creds
 creds_left None c reply = c
-creds_left (Some next) c Done = next
-creds_left (Some next) c (Child n) = c
-creds_left (Some next) c (Signal sig) = c
-creds_left (Some next) c (Names count names) = c
-creds_left (Some next) c (Denied case) = c
-creds_left (Some next) c (Refused why) = c
+creds_left (Some next) c Reply.Ok = next
+creds_left (Some next) c (Reply.Child n) = c
+creds_left (Some next) c (Reply.Signal sig) = c
+creds_left (Some next) c (Reply.Names count names) = c
+creds_left (Some next) c (Reply.Denied case) = c
+creds_left (Some next) c (Reply.Refused why) = c
 
 -- What is prepared before a call serves in each world where the caller has these credentials: a step there leaves the
 -- caller with them.

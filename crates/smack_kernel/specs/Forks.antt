@@ -1,7 +1,7 @@
 use Rattle.std.specs.Prelude.{◌≡◌, ℕ, ◌+◌, ◌<◌, ◌≤◌, ◌++◌, ◌∷◌, [], List, length, Option, Some, None, true, false}
 use Rattle.smack_base.specs.declared.ids.Pid.{Pid}
-use Rattle.world_spec.specs.declared.Call.TheVariants.{Task}
-use Rattle.world_spec.specs.declared.TaskCall.TheVariants.{Fork}
+use Rattle.world_spec.specs.declared.Call.TheVariants as Call
+use Rattle.world_spec.specs.declared.TaskCall.TheVariants as TaskCall
 use Rattle.world_spec.specs.declared.Entry.{Entry}
 use Rattle.world_spec.specs.Replays.{StandsOver}
 use Rattle.smack_world.specs.Stepping.{WorldValue}
@@ -11,21 +11,21 @@ use Rattle.live_table.specs.Batches.{batches_by}
 use Rattle.live_table.specs.Machines.{made, last_version, entries_by}
 use Rattle.live_table.specs.Seats.{Rests}
 use Rattle.smack_kernel.specs.declared.turns.Turned.{Turned}
-use Rattle.smack_kernel.specs.declared.turns.Turned.TheVariants as turned
+use Rattle.smack_kernel.specs.declared.turns.Turned.TheVariants as Turned
 use Rattle.smack_kernel.specs.Histories.{world_means, child_of}
 use Rattle.smack_kernel.specs.Tasks.{TaskValue, Starts}
 use Rattle.smack_kernel.specs.Turns.{IsTurned}
 
 -- the number of the task that a call in a turn made
 abbrev pub task_made : Turned → Option ℕ
-task_made (turned.Entry r) = child_of r.reply
-task_made (turned.TrailFull back) = None
+task_made (Turned.Entry r) = child_of r.reply
+task_made (Turned.TrailFull back) = None
 
 -- what came of a fork in a turn, which is not counted yet: the child is there exactly where a task was made
 abbrev pub IsBranched : TaskValue → TaskValue → Pid → Turned → Option TaskValue → Type 0
-IsBranched v w pid turned None = IsTurned v w (Task (Fork pid)) turned × (task_made turned ≡ None)
+IsBranched v w pid turned None = IsTurned v w (Call.Task (TaskCall.Fork pid)) turned × (task_made turned ≡ None)
 IsBranched v w pid turned (Some c) =
-    IsTurned v w (Task (Fork pid)) turned × (task_made turned ≡ Some c.number) × Starts w c c.number
+    IsTurned v w (Call.Task (TaskCall.Fork pid)) turned × (task_made turned ≡ Some c.number) × Starts w c c.number
 
 -- A world with one entry more than the seat has met, which has the turn: the entry is the seat's own and makes the next
 -- task, and there is room for it.

@@ -1,6 +1,6 @@
 use Rattle.std.specs.Prelude.{◌≡◌, ℕ, ◌+◌, ◌<◌, ◌≤◌, ◌++◌, ◌∷◌, [], List, length, true, false}
 use Rattle.smack_base.specs.declared.rule_op.RuleOp.{RuleOp}
-use Rattle.smack_base.specs.declared.cap.Cap.TheVariants.{MacAdmin}
+use Rattle.smack_base.specs.declared.cap.Cap.TheVariants as Cap
 use Rattle.rules_spec.specs.declared.Batch.{Batch}
 use Rattle.rules_spec.specs.Rulings.{ruling}
 use Rattle.rules_spec.specs.Creds.{Creds, is_effective}
@@ -17,7 +17,7 @@ use Rattle.live_table.specs.Core.{row_count}
 use Rattle.smack_world.specs.Stepping.{most_entries}
 use Rattle.smack_kernel.specs.Histories.{world_means}
 use Rattle.smack_kernel.specs.declared.publishing.Published.{Published}
-use Rattle.smack_kernel.specs.declared.publishing.Published.TheVariants as published
+use Rattle.smack_kernel.specs.declared.publishing.Published.TheVariants as Published
 
 -- What a task has seen grows: the lists begin with the earlier ones, the task's number has these batches and entries
 -- more, and its ended numbers have no more.
@@ -41,7 +41,7 @@ pub record Publishes (number : ℕ) (ended : List ℕ) (j j' : List Batch) (h h'
   pub is : j' ≡ before ++ batch_of number seq ops ∷ []
   pub more : Begins before j
   pub grows : Grows number ended j j' h h' (batch_of number seq ops ∷ []) []
-  pub effective : is_effective creds MacAdmin (ruling before) ≡ true
+  pub effective : is_effective creds Cap.MacAdmin (ruling before) ≡ true
   pub fits : rows_of before + length ops + 1 ≤ row_count
 
 abbrev pub entry_of : ℕ → ℕ → Call → ℕ → List Verdict → Reply → Entry
@@ -71,24 +71,24 @@ pub record Enters (number : ℕ) (ended : List ℕ) (j j' : List Batch) (h h' : 
 -- What writes are judged by in a version: whether CAP_MAC_ADMIN is effective there, and then whether the journal has
 -- room for their batch.
 abbrev pub IsJudged : List Batch → Creds → List RuleOp → Published → Type 0
-IsJudged journal creds ops published.Batch =
-    (is_effective creds MacAdmin (ruling journal) ≡ true) × (rows_of journal + length ops + 1 ≤ row_count)
-IsJudged journal creds ops published.NotPrivileged = is_effective creds MacAdmin (ruling journal) ≡ false
-IsJudged journal creds ops (published.JournalFull rows) =
-    (is_effective creds MacAdmin (ruling journal) ≡ true) × (rows ≡ rows_of journal)
+IsJudged journal creds ops Published.Batch =
+    (is_effective creds Cap.MacAdmin (ruling journal) ≡ true) × (rows_of journal + length ops + 1 ≤ row_count)
+IsJudged journal creds ops Published.NotPrivileged = is_effective creds Cap.MacAdmin (ruling journal) ≡ false
+IsJudged journal creds ops (Published.JournalFull rows) =
+    (is_effective creds Cap.MacAdmin (ruling journal) ≡ true) × (rows ≡ rows_of journal)
     × (row_count < rows + length ops + 1)
 
 -- the journal after writes were judged
 abbrev pub journal_after : List Batch → Batch → Published → List Batch
-journal_after journal batch published.Batch = journal ++ batch ∷ []
-journal_after journal batch published.NotPrivileged = journal
-journal_after journal batch (published.JournalFull rows) = journal
+journal_after journal batch Published.Batch = journal ++ batch ∷ []
+journal_after journal batch Published.NotPrivileged = journal
+journal_after journal batch (Published.JournalFull rows) = journal
 
 -- what came of writes whose text is good
 abbrev pub IsPublished : ℕ → List ℕ → List Batch → List Batch → List Entry → List Entry → Batch → Creds → Published
     → Type 0
-IsPublished number ended j j' h h' batch creds published.Batch = Publishes number ended j j' h h' batch.seq batch.ops creds
-IsPublished number ended j j' h h' batch creds published.NotPrivileged =
-    Grows number ended j j' h h' [] [] × IsJudged j' creds batch.ops published.NotPrivileged
-IsPublished number ended j j' h h' batch creds (published.JournalFull rows) =
-    Grows number ended j j' h h' [] [] × IsJudged j' creds batch.ops (published.JournalFull rows)
+IsPublished number ended j j' h h' batch creds Published.Batch = Publishes number ended j j' h h' batch.seq batch.ops creds
+IsPublished number ended j j' h h' batch creds Published.NotPrivileged =
+    Grows number ended j j' h h' [] [] × IsJudged j' creds batch.ops Published.NotPrivileged
+IsPublished number ended j j' h h' batch creds (Published.JournalFull rows) =
+    Grows number ended j j' h h' [] [] × IsJudged j' creds batch.ops (Published.JournalFull rows)

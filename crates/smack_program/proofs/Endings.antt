@@ -7,13 +7,13 @@ use Rattle.outside.specs.Source.{Takes, AtEnd}
 use Rattle.outside.specs.Reading.{taken_count}
 use Rattle.outside.proofs.Taking.{took_all}
 use Rattle.script_spec.specs.declared.What.{What}
-use Rattle.script_spec.specs.declared.What.TheVariants.{Bytes, Lines, Tasks, Labels, Text as LongText, Rows}
+use Rattle.script_spec.specs.declared.What.TheVariants as What
 use Rattle.script_spec.specs.declared.ScriptFault.{ScriptFault}
-use Rattle.script_spec.specs.declared.ScriptFault.TheVariants.{Malformed as BadLine, TooLarge as Exceeds, Memory}
+use Rattle.script_spec.specs.declared.ScriptFault.TheVariants as ScriptFault
 use Rattle.script_spec.specs.Grammar.{parse, most_bytes}
 use Rattle.script_text.specs.Scripts.{Fails}
 use Rattle.smack_program.specs.declared.status.Status.{Status}
-use Rattle.smack_program.specs.declared.status.Status.TheVariants.{Done, Usage, ReadFault, WriteFault, OutOfMemory, TooLarge}
+use Rattle.smack_program.specs.declared.status.Status.TheVariants as Status
 use Rattle.smack_program.specs.Statuses.{status_of, read_status, due_status, is_refusal, may_have_written}
 use Rattle.smack_program.specs.Parts.{IsRead, IsUnread, IsWritten, IsUnwritten}
 use Rattle.smack_program.specs.Scripts.{IsNoScript, ScriptEnds}
@@ -38,7 +38,7 @@ due_to source source' bytes told status read is due =
     sym (ap due_status (same_told source.bytes source'.bytes bytes told read.took read.ends is) ∙ due)
 
 -- too many bytes are no script
-due_to_many : (bytes : List ℕ) → most_bytes < length bytes → TooLarge Bytes ≡ due_status bytes
+due_to_many : (bytes : List ℕ) → most_bytes < length bytes → Status.TooLarge What.Bytes ≡ due_status bytes
 due_to_many bytes many = rw (lt-ltb most_bytes (length bytes) many) refl
 
 many_told : (left left' : Option (List ℕ)) (told : List ℕ) → left ≡ Some told → (bytes : List ℕ) × Takes left left' bytes
@@ -62,12 +62,12 @@ not_untouched status other is may none =
     cc
 
 unread_for : (answers : List ℕ → Result (List ℕ) Status → Type 0) (source source' sink : Seen) (status : Status)
-    → IsUnread source source' status → (status ≡ ReadFault) ⊎ ((status ≡ TooLarge Bytes) ⊎ (status ≡ OutOfMemory))
+    → IsUnread source source' status → (status ≡ Status.ReadFault) ⊎ ((status ≡ Status.TooLarge What.Bytes) ⊎ (status ≡ Status.OutOfMemory))
     → ScriptEnds answers source source' sink sink status
 unread_for answers source source' sink status unread (inl is) = record {
   front = unread.front;
   done = λ d. cc;
-  refused = λ refused. absurd (not_refused status ReadFault is refl refused);
+  refused = λ refused. absurd (not_refused status Status.ReadFault is refl refused);
   large = unread.large;
   exceeded = unread.exceeded;
   read = unread.read;
@@ -81,7 +81,7 @@ unread_for answers source source' sink status unread (inl is) = record {
 unread_for answers source source' sink status unread (inr (inl is)) = record {
   front = unread.front;
   done = λ d. cc;
-  refused = λ refused. absurd (not_refused status (TooLarge Bytes) is refl refused);
+  refused = λ refused. absurd (not_refused status (Status.TooLarge What.Bytes) is refl refused);
   large = unread.large;
   exceeded = unread.exceeded;
   read = unread.read;
@@ -96,7 +96,7 @@ unread_for answers source source' sink status unread (inr (inl is)) = record {
 unread_for answers source source' sink status unread (inr (inr is)) = record {
   front = unread.front;
   done = λ d. cc;
-  refused = λ refused. absurd (not_refused status OutOfMemory is refl refused);
+  refused = λ refused. absurd (not_refused status Status.OutOfMemory is refl refused);
   large = unread.large;
   exceeded = unread.exceeded;
   read = unread.read;
@@ -115,7 +115,7 @@ unread_ends answers source source' sink status unread = unread_for answers sourc
 
 -- memory ran out before anything was written
 spent_ends : (answers : List ℕ → Result (List ℕ) Status → Type 0) (source source' sink : Seen) (bytes : List ℕ)
-    → IsRead source source' bytes → ScriptEnds answers source source' sink sink OutOfMemory
+    → IsRead source source' bytes → ScriptEnds answers source source' sink sink Status.OutOfMemory
 spent_ends answers source source' sink bytes read = record {
   front = (bytes, read.took);
   done = λ is. cc;
@@ -134,8 +134,8 @@ spent_ends answers source source' sink bytes read = record {
 -- the bytes read are refused for a fault of theirs
 refused_ends : (answers : List ℕ → Result (List ℕ) Status → Type 0) (source source' sink : Seen) (bytes : List ℕ) (f : ScriptFault)
     → IsRead source source' bytes → parse bytes ≡ Err f → answers bytes (Err (status_of f))
-    → status_of f ≢ Done → status_of f ≢ ReadFault → status_of f ≢ WriteFault → status_of f ≢ OutOfMemory → status_of f ≢ Usage
-    → status_of f ≢ TooLarge Bytes → ScriptEnds answers source source' sink sink (status_of f)
+    → status_of f ≢ Status.Done → status_of f ≢ Status.ReadFault → status_of f ≢ Status.WriteFault → status_of f ≢ Status.OutOfMemory → status_of f ≢ Status.Usage
+    → status_of f ≢ Status.TooLarge What.Bytes → ScriptEnds answers source source' sink sink (status_of f)
 refused_ends answers source source' sink bytes f read e refused not_done not_read not_write not_spent not_usage not_large = record {
   front = (bytes, read.took);
   done = λ is. absurd (not_done is);
@@ -151,30 +151,30 @@ refused_ends answers source source' sink bytes f read e refused not_done not_rea
   words = not_usage;
 }
 
-not_bytes : (what : What) (bytes : List ℕ) → length bytes ≤ most_bytes → parse bytes ≡ Err (Exceeds what) → TooLarge what ≡ TooLarge Bytes → ⊥
-not_bytes Bytes bytes few e is = few_bytes bytes few e
-not_bytes Lines bytes few e is = cc
-not_bytes Tasks bytes few e is = cc
-not_bytes Labels bytes few e is = cc
-not_bytes LongText bytes few e is = cc
-not_bytes Rows bytes few e is = cc
+not_bytes : (what : What) (bytes : List ℕ) → length bytes ≤ most_bytes → parse bytes ≡ Err (ScriptFault.TooLarge what) → Status.TooLarge what ≡ Status.TooLarge What.Bytes → ⊥
+not_bytes What.Bytes bytes few e is = few_bytes bytes few e
+not_bytes What.Lines bytes few e is = cc
+not_bytes What.Tasks bytes few e is = cc
+not_bytes What.Labels bytes few e is = cc
+not_bytes What.Text bytes few e is = cc
+not_bytes What.Rows bytes few e is = cc
 
 -- the bytes read are no script
 pub no_script_ends : (answers : List ℕ → Result (List ℕ) Status → Type 0) (source source' sink : Seen) (bytes : List ℕ) (f : ScriptFault)
     → IsRead source source' bytes → Fails f (parse bytes) → ((status : Status) → IsNoScript bytes status → answers bytes (Err status))
     → ScriptEnds answers source source' sink sink (status_of f)
-no_script_ends answers source source' sink bytes (BadLine line cause) read e refuse =
-    refused_ends answers source source' sink bytes (BadLine line cause) read e (refuse _ (BadLine line cause, e, refl)) (λ x. cc) (λ x. cc)
+no_script_ends answers source source' sink bytes (ScriptFault.Malformed line cause) read e refuse =
+    refused_ends answers source source' sink bytes (ScriptFault.Malformed line cause) read e (refuse _ (ScriptFault.Malformed line cause, e, refl)) (λ x. cc) (λ x. cc)
     (λ x. cc) (λ x. cc) (λ x. cc) (λ x. cc)
-no_script_ends answers source source' sink bytes (Exceeds what) read e refuse =
-    refused_ends answers source source' sink bytes (Exceeds what) read e (refuse _ (Exceeds what, e, refl)) (λ x. cc) (λ x. cc) (λ x. cc)
+no_script_ends answers source source' sink bytes (ScriptFault.TooLarge what) read e refuse =
+    refused_ends answers source source' sink bytes (ScriptFault.TooLarge what) read e (refuse _ (ScriptFault.TooLarge what, e, refl)) (λ x. cc) (λ x. cc) (λ x. cc)
     (λ x. cc) (λ x. cc) (not_bytes what bytes read.few e)
-no_script_ends answers source source' sink bytes Memory read e refuse = spent_ends answers source source' sink bytes read
+no_script_ends answers source source' sink bytes ScriptFault.Memory read e refuse = spent_ends answers source source' sink bytes read
 
 -- an answer was written
 pub written_ends : (answers : List ℕ → Result (List ℕ) Status → Type 0) (source source' sink sink' : Seen) (bytes text : List ℕ)
-    → IsRead source source' bytes → answers bytes (Ok text) → due_status bytes ≡ Done → IsWritten text sink sink'
-    → ScriptEnds answers source source' sink sink' Done
+    → IsRead source source' bytes → answers bytes (Ok text) → due_status bytes ≡ Status.Done → IsWritten text sink sink'
+    → ScriptEnds answers source source' sink sink' Status.Done
 written_ends answers source source' sink sink' bytes text read answer due written = record {
   front = (bytes, read.took);
   done = λ is. (bytes, text, (read.took, read.ends), answer, written.all);
@@ -186,22 +186,22 @@ written_ends answers source source' sink sink' bytes text read answer due writte
   untouched = λ is. cc;
   cut = λ is. cc;
   spent = λ is. cc;
-  complete = λ told calm. inl (due_to source source' bytes told Done read calm.told due);
+  complete = λ told calm. inl (due_to source source' bytes told Status.Done read calm.told due);
   words = λ is. cc;
 }
 
 unwritten_for : (answers : List ℕ → Result (List ℕ) Status → Type 0) (source source' sink sink' : Seen) (bytes text : List ℕ)
     (status : Status) → IsRead source source' bytes → answers bytes (Ok text) → IsUnwritten text sink sink' status
-    → (status ≡ WriteFault) ⊎ (status ≡ OutOfMemory) → ScriptEnds answers source source' sink sink' status
+    → (status ≡ Status.WriteFault) ⊎ (status ≡ Status.OutOfMemory) → ScriptEnds answers source source' sink sink' status
 unwritten_for answers source source' sink sink' bytes text status read answer unwritten (inl is) = record {
   front = (bytes, read.took);
   done = λ d. cc;
-  refused = λ refused. absurd (not_refused status WriteFault is refl refused);
+  refused = λ refused. absurd (not_refused status Status.WriteFault is refl refused);
   large = λ d. cc;
   exceeded = λ more. absurd (read.no_more more);
   read = quiet _ _ _ read.same (λ d. cc);
   write = unwritten.write;
-  untouched = λ none. absurd (not_untouched status WriteFault is refl none);
+  untouched = λ none. absurd (not_untouched status Status.WriteFault is refl none);
   cut = λ d. (bytes, text, (read.took, read.ends), answer, unwritten.front);
   spent = λ d. cc;
   complete = λ told calm. absurd (calm.written (unwritten.write.cause is));
@@ -210,12 +210,12 @@ unwritten_for answers source source' sink sink' bytes text status read answer un
 unwritten_for answers source source' sink sink' bytes text status read answer unwritten (inr is) = record {
   front = (bytes, read.took);
   done = λ d. cc;
-  refused = λ refused. absurd (not_refused status OutOfMemory is refl refused);
+  refused = λ refused. absurd (not_refused status Status.OutOfMemory is refl refused);
   large = λ d. cc;
   exceeded = λ more. inr is;
   read = quiet _ _ _ read.same (λ d. cc);
   write = unwritten.write;
-  untouched = λ none. absurd (not_untouched status OutOfMemory is refl none);
+  untouched = λ none. absurd (not_untouched status Status.OutOfMemory is refl none);
   cut = λ d. cc;
   spent = λ d. inr (bytes, text, (read.took, read.ends), answer, unwritten.front);
   complete = λ told calm. inr is;

@@ -4,9 +4,9 @@ use Rattle.outside.specs.Seen.{Seen}
 use Rattle.outside.specs.Source.{Takes, AtEnd}
 use Rattle.outside.specs.Sink.{Appends, AppendsFront}
 use Rattle.outside.specs.Reading.{taken_count}
-use Rattle.script_spec.specs.declared.What.TheVariants.{Bytes}
+use Rattle.script_spec.specs.declared.What.TheVariants as What
 use Rattle.smack_program.specs.declared.status.Status.{Status}
-use Rattle.smack_program.specs.declared.status.Status.TheVariants.{Done, Usage, ReadFault, WriteFault, OutOfMemory, TooLarge}
+use Rattle.smack_program.specs.declared.status.Status.TheVariants as Status
 use Rattle.smack_program.specs.Statuses.{is_refusal, may_have_written}
 
 -- A command answers the bytes that it reads: `answers bytes (Ok text)` says that this text is an answer to them, and
@@ -43,22 +43,22 @@ pub record CommandEnds (answers : List ℕ → Result (List ℕ) Status → Type
   -- what was taken from the source is a front of what it had
   pub front : (bytes : List ℕ) × Takes source.bytes source'.bytes bytes
   -- the source was read to its end, and an answer to the bytes read was written
-  pub done : status ≡ Done → IsAnswered answers source source' sink sink'
+  pub done : status ≡ Status.Done → IsAnswered answers source source' sink sink'
   -- the source was read to its end, and the bytes read are refused with this status
   pub refused : IsTrue (is_refusal status) → IsRefused answers source source' status
   -- too many bytes come exactly where more were taken than may be
-  pub large : status ≡ TooLarge Bytes → IfSome (taken_count source.bytes source'.bytes) (λ n. most < n)
-  pub exceeded : IsSomeAnd (taken_count source.bytes source'.bytes) (λ n. most < n) → (status ≡ TooLarge Bytes) ⊎ (status ≡ OutOfMemory)
+  pub large : status ≡ Status.TooLarge What.Bytes → IfSome (taken_count source.bytes source'.bytes) (λ n. most < n)
+  pub exceeded : IsSomeAnd (taken_count source.bytes source'.bytes) (λ n. most < n) → (status ≡ Status.TooLarge What.Bytes) ⊎ (status ≡ Status.OutOfMemory)
   -- a fault of reading is told, and so is a fault of writing: each comes where its count rose, and only there
-  pub read : AreTold source.faults source'.faults (status ≡ ReadFault)
-  pub write : AreTold sink.faults sink'.faults (status ≡ WriteFault)
+  pub read : AreTold source.faults source'.faults (status ≡ Status.ReadFault)
+  pub write : AreTold sink.faults sink'.faults (status ≡ Status.WriteFault)
   -- where the status is none at which something may have been written, the sink is as it was
   pub untouched : IsFalse (may_have_written status) → sink' ≡ sink
   -- what a fault of writing leaves is a front of an answer
-  pub cut : status ≡ WriteFault → IsCutShort answers source source' sink sink'
+  pub cut : status ≡ Status.WriteFault → IsCutShort answers source source' sink sink'
   -- want of memory leaves nothing written, or a front of an answer
-  pub spent : status ≡ OutOfMemory → (sink'.bytes ≡ sink.bytes) ⊎ IsCutShort answers source source' sink sink'
+  pub spent : status ≡ Status.OutOfMemory → (sink'.bytes ≡ sink.bytes) ⊎ IsCutShort answers source source' sink sink'
   -- where nothing failed, the status is the one that is due to the bytes, but for want of memory
-  pub complete : (bytes : List ℕ) → IsCalm bytes source source' sink sink' → (status ≡ due bytes) ⊎ (status ≡ OutOfMemory)
+  pub complete : (bytes : List ℕ) → IsCalm bytes source source' sink sink' → (status ≡ due bytes) ⊎ (status ≡ Status.OutOfMemory)
   -- the words of the command line are those of a command
-  pub words : status ≢ Usage
+  pub words : status ≢ Status.Usage

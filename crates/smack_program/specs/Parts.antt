@@ -4,10 +4,10 @@ use Rattle.outside.specs.Seen.{Seen}
 use Rattle.outside.specs.Source.{Takes, AtEnd}
 use Rattle.outside.specs.Sink.{Appends, AppendsFront}
 use Rattle.outside.specs.Reading.{taken_count}
-use Rattle.script_spec.specs.declared.What.TheVariants.{Bytes}
+use Rattle.script_spec.specs.declared.What.TheVariants as What
 use Rattle.script_spec.specs.Grammar.{most_bytes}
 use Rattle.smack_program.specs.declared.status.Status.{Status}
-use Rattle.smack_program.specs.declared.status.Status.TheVariants.{ReadFault, WriteFault, OutOfMemory, TooLarge}
+use Rattle.smack_program.specs.declared.status.Status.TheVariants as Status
 
 -- the source was read to its end, and gave these bytes
 pub record IsRead (source source' : Seen) (bytes : List ℕ) : Type 0 where
@@ -20,10 +20,10 @@ pub record IsRead (source source' : Seen) (bytes : List ℕ) : Type 0 where
 -- the source was not read to its end, for this reason
 pub record IsUnread (source source' : Seen) (status : Status) : Type 0 where
   pub front : (bytes : List ℕ) × Takes source.bytes source'.bytes bytes
-  pub reason : (status ≡ ReadFault) ⊎ ((status ≡ TooLarge Bytes) ⊎ (status ≡ OutOfMemory))
-  pub large : status ≡ TooLarge Bytes → IfSome (taken_count source.bytes source'.bytes) (λ n. most_bytes < n)
-  pub exceeded : IsSomeAnd (taken_count source.bytes source'.bytes) (λ n. most_bytes < n) → (status ≡ TooLarge Bytes) ⊎ (status ≡ OutOfMemory)
-  pub read : AreTold source.faults source'.faults (status ≡ ReadFault)
+  pub reason : (status ≡ Status.ReadFault) ⊎ ((status ≡ Status.TooLarge What.Bytes) ⊎ (status ≡ Status.OutOfMemory))
+  pub large : status ≡ Status.TooLarge What.Bytes → IfSome (taken_count source.bytes source'.bytes) (λ n. most_bytes < n)
+  pub exceeded : IsSomeAnd (taken_count source.bytes source'.bytes) (λ n. most_bytes < n) → (status ≡ Status.TooLarge What.Bytes) ⊎ (status ≡ Status.OutOfMemory)
+  pub read : AreTold source.faults source'.faults (status ≡ Status.ReadFault)
 
 -- the sink took this text, and did not fail
 pub record IsWritten (text : List ℕ) (sink sink' : Seen) : Type 0 where
@@ -33,5 +33,5 @@ pub record IsWritten (text : List ℕ) (sink sink' : Seen) : Type 0 where
 -- the sink took a front of this text, and no more for this reason
 pub record IsUnwritten (text : List ℕ) (sink sink' : Seen) (status : Status) : Type 0 where
   pub front : AppendsFront sink.bytes sink'.bytes text
-  pub reason : (status ≡ WriteFault) ⊎ (status ≡ OutOfMemory)
-  pub write : AreTold sink.faults sink'.faults (status ≡ WriteFault)
+  pub reason : (status ≡ Status.WriteFault) ⊎ (status ≡ Status.OutOfMemory)
+  pub write : AreTold sink.faults sink'.faults (status ≡ Status.WriteFault)

@@ -2,11 +2,11 @@ use Rattle.std.specs.Prelude.{◌≡◌, ◌↔◌, ◌⊎◌, ℕ, List, Option
 use Rattle.outside.specs.Faults.{AreTold}
 use Rattle.outside.specs.Seen.{Seen}
 use Rattle.outside.specs.Sink.{Appends, AppendsFront}
-use Rattle.outside.specs.declared.sink.SinkFault.TheVariants.{Failed}
+use Rattle.outside.specs.declared.sink.SinkFault.TheVariants as SinkFault
 use Rattle.smack_kernel.specs.Answers.{ClosedValue}
 use Rattle.smack_program.specs.declared.running.Ending.{Ending}
 use Rattle.smack_program.specs.declared.status.Status.{Status}
-use Rattle.smack_program.specs.declared.status.Status.TheVariants.{Usage}
+use Rattle.smack_program.specs.declared.status.Status.TheVariants as Status
 use Rattle.smack_program.specs.Statuses.{code_of}
 use Rattle.smack_program.specs.Errors.{error_text}
 use Rattle.smack_program.specs.Replay.{AreReplay, ReplayEnds}
@@ -24,13 +24,13 @@ pub record ProgramEnds (words : List (List ℕ)) (kept : Option ClosedValue) (so
   pub replays : AreReplay words → ReplayEnds source source' sink sink' status
   pub runs : AreRun words → RunEnds kept source source' sink sink' status
   -- usage is the status of other words, and of those alone
-  pub usage : (status ≡ Usage) ↔ (AreCommand words → ⊥)
+  pub usage : (status ≡ Status.Usage) ↔ (AreCommand words → ⊥)
   -- nothing is then read or written
-  pub unread : status ≡ Usage → (source' ≡ source) × (sink' ≡ sink)
+  pub unread : status ≡ Status.Usage → (source' ≡ source) × (sink' ≡ sink)
   -- the line of the status was written on standard error, or after a fault a front of it
   pub told : OnOk ending.told (Appends errors.bytes errors'.bytes (error_text status))
   pub cut : OnErr ending.told (AppendsFront errors.bytes errors'.bytes (error_text status))
   -- that fault is told: it comes where the count of standard error rose, and only there
-  pub fault : AreTold errors.faults errors'.faults (ending.told ≡ Err Failed)
+  pub fault : AreTold errors.faults errors'.faults (ending.told ≡ Err SinkFault.Failed)
   -- the exit status is that of the status
   pub code : ending.code ≡ code_of status

@@ -11,7 +11,7 @@ use Rattle.legal_spec.specs.Fits.{IsLegalFor}
 use Rattle.smack_kernel.specs.Answers.{ClosedValue}
 use Rattle.script_run.specs.declared.running.Ran.{Ran}
 use Rattle.smack_program.specs.declared.status.Status.{Status}
-use Rattle.smack_program.specs.declared.status.Status.TheVariants.{Done}
+use Rattle.smack_program.specs.declared.status.Status.TheVariants as Status
 use Rattle.smack_program.specs.Scripts.{IsNoScript, ScriptEnds}
 
 -- what is kept of a kernel, if something is, is the journal and the history of the record
@@ -42,8 +42,8 @@ run_answers kept bytes (Err status) = IsNoScript bytes status
 pub record RunEnds (kept : Option ClosedValue) (source source' sink sink' : Seen) (status : Status) : Type 0 where
   pub ends : ScriptEnds (run_answers kept) source source' sink sink' status
   -- at Done the journal and the history of the record whose text was written are kept, and else nothing is
-  pub done : status ≡ Done → IsSome kept
-  pub other : status ≢ Done → kept ≡ None
+  pub done : status ≡ Status.Done → IsSome kept
+  pub other : status ≢ Status.Done → kept ≡ None
 
 -- the words are those of the command that runs
 abbrev pub AreRun : List (List ℕ) → Type 0

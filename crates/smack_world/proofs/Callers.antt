@@ -2,8 +2,8 @@ use Rattle.std.proofs.Common.{◌≡◌, ℕ, true, false, [], Some, refl, ap}
 use Rattle.rules_spec.specs.Rulings.{Ruling}
 use Rattle.rules_spec.specs.Creds.{Creds}
 use Rattle.world_spec.specs.declared.Call.{Call}
-use Rattle.world_spec.specs.declared.Reply.TheVariants.{Refused}
-use Rattle.world_spec.specs.declared.Why.TheVariants.{NoSuchTask}
+use Rattle.world_spec.specs.declared.Reply.TheVariants as Reply
+use Rattle.world_spec.specs.declared.Why.TheVariants as Why
 use Rattle.world_spec.specs.Worlds.{World, is_live, creds_of}
 use Rattle.world_spec.specs.Questions.{call_asks, asks}
 use Rattle.world_spec.specs.Steps.{Went, went, verdict_by_creds, verdict_of}
@@ -13,7 +13,7 @@ live_asks w version task call = went (verdict_of w version task) (asks w version
 
 -- the call of a task that is not live is refused
 pub of_nobody : (w : World) (version : Ruling) (task : ℕ) (call : Call) → is_live w.tasks task ≡ false
-    → record { checks = []; stop = Some (Refused NoSuchTask) } ≡ went (verdict_of w version task) (asks w version task call)
+    → record { checks = []; stop = Some (Reply.Refused Why.NoSuchTask) } ≡ went (verdict_of w version task) (asks w version task call)
 of_nobody w version task call dead = simp dead refl
 
 -- the call of a live task comes to what its own refusals and questions come to

@@ -5,7 +5,7 @@ use Rattle.world_spec.specs.declared.Entry.{Entry}
 use Rattle.world_spec.specs.Worlds.{World}
 use Rattle.world_spec.specs.Steps.{step}
 use Rattle.smack_world.specs.declared.world.Stepped.{Stepped}
-use Rattle.smack_world.specs.declared.world.Stepped.TheVariants.{Entered, TrailFull}
+use Rattle.smack_world.specs.declared.world.Stepped.TheVariants as Stepped
 
 -- what a machine holds: the world, and the entries of the calls that were made
 pub record WorldValue : Type 0 where
@@ -31,9 +31,9 @@ entered before version task seq call = record {
 -- What a step says: the place of the entry from 1 and copies of its checks and its reply; or, where the trail is full,
 -- that nothing was done, with the call.
 abbrev pub IsStepped : WorldValue → WorldValue → Ruling → ℕ → ℕ → Call → Stepped → Type 0
-IsStepped before after version task seq call (Entered place checks reply) =
+IsStepped before after version task seq call (Stepped.Entered place checks reply) =
     (length before.trail < most_entries) × (after ≡ entered before version task seq call)
     × (place ≡ length before.trail + 1) × (checks ≡ (step before.world version task call).checks)
     × (reply ≡ (step before.world version task call).reply)
-IsStepped before after version task seq call (TrailFull back) =
+IsStepped before after version task seq call (Stepped.TrailFull back) =
     (length before.trail ≡ most_entries) × (after ≡ before) × (back ≡ call)

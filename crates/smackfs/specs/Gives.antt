@@ -5,14 +5,14 @@ use Rattle.file_spec.specs.Writes.{NamedWrite}
 use Rattle.file_spec.specs.declared.Refusal.{Refusal}
 use Rattle.file_spec.specs.declared.Compiled.{Compiled}
 use Rattle.smackfs.specs.declared.compiling.TextFault.{TextFault}
-use Rattle.smackfs.specs.declared.compiling.TextFault.TheVariants.{Refused, Memory}
+use Rattle.smackfs.specs.declared.compiling.TextFault.TheVariants as TextFault
 use Rattle.smackfs.specs.declared.text_writes.WritesFault.{WritesFault}
-use Rattle.smackfs.specs.declared.text_writes.WritesFault.TheVariants.{Bad, Memory as NoMemory}
+use Rattle.smackfs.specs.declared.text_writes.WritesFault.TheVariants as WritesFault
 
 -- why there is no answer; want of memory is free
 abbrev pub Faults : {A : Type 0} → TextFault → Result A Refusal → Type 0
-Faults (Refused refusal) is = is ≡ Err refusal
-Faults Memory is = Unit {0}
+Faults (TextFault.Refused refusal) is = is ≡ Err refusal
+Faults TextFault.Memory is = Unit {0}
 
 -- the writes of a text are these, or it is refused
 abbrev pub Gives : Result (List RuleOp) TextFault → Result (List RuleOp) Refusal → Type 0
@@ -26,5 +26,5 @@ Compiles (Err fault) is = Faults fault is
 
 -- why the writes of a text were not read: it has this bad line; want of memory is free
 abbrev pub IsBadText : WritesFault → Result (List NamedWrite) BadLine → Type 0
-IsBadText (Bad b) whole = whole ≡ Err b
-IsBadText NoMemory whole = Unit {0}
+IsBadText (WritesFault.Bad b) whole = whole ≡ Err b
+IsBadText WritesFault.Memory whole = Unit {0}

@@ -5,7 +5,7 @@ use Rattle.smackfs.specs.Named.{seen_op, IsGoodOp}
 use Rattle.smackfs.specs.declared.named_op.NamedOp.{NamedOp}
 use Rattle.smackfs.specs.declared.text_writes.ListWrites.{ListWrites}
 use Rattle.smackfs.specs.declared.text_writes.Reader.{Reader}
-use Rattle.smackfs.specs.declared.text_writes.Reader.TheVariants.{Sets, Changes, Revokes, Onlycap, Single}
+use Rattle.smackfs.specs.declared.text_writes.Reader.TheVariants as Reader
 
 -- one answer, where it was not given yet
 abbrev pub one_left : Option (Result NamedOp BadLine) → List (Result NamedWrite BadLine)
@@ -20,16 +20,16 @@ list_left list =
 
 -- what a reader will still answer
 abbrev pub left : Reader → List (Result NamedWrite BadLine)
-left (Sets lines) = map (on_good set_write) lines
-left (Changes lines) = map (on_good change_write) lines
-left (Revokes lines) = map (on_good NamedRevoke) lines
-left (Onlycap list) = list_left list
-left (Single answer) = one_left answer
+left (Reader.Sets lines) = map (on_good set_write) lines
+left (Reader.Changes lines) = map (on_good change_write) lines
+left (Reader.Revokes lines) = map (on_good NamedRevoke) lines
+left (Reader.Onlycap list) = list_left list
+left (Reader.Single answer) = one_left answer
 
 -- a single answer that is still to come has good names
 abbrev pub IsGoodReader : Reader → Type 0
-IsGoodReader (Sets lines) = Unit {0}
-IsGoodReader (Changes lines) = Unit {0}
-IsGoodReader (Revokes lines) = Unit {0}
-IsGoodReader (Onlycap list) = Unit {0}
-IsGoodReader (Single answer) = IfSome answer IsGoodOp
+IsGoodReader (Reader.Sets lines) = Unit {0}
+IsGoodReader (Reader.Changes lines) = Unit {0}
+IsGoodReader (Reader.Revokes lines) = Unit {0}
+IsGoodReader (Reader.Onlycap list) = Unit {0}
+IsGoodReader (Reader.Single answer) = IfSome answer IsGoodOp

@@ -6,18 +6,18 @@ use Rattle.text_spec.specs.declared.BadLine.{BadLine}
 use Rattle.rule_text.specs.Parts.{placed}
 use Rattle.file_spec.specs.Writes.{NamedWrite, NamedSet, NamedChange, NamedRevoke, NamedClear, NamedAdd, NamedAmbient, NamedPtrace, NamedLogging, names_of}
 use Rattle.smackfs.specs.declared.named_op.NamedOp.{NamedOp}
-use Rattle.smackfs.specs.declared.named_op.NamedOp.TheVariants.{Set, Change, Revoke, OnlyClear, OnlyAdd, Ambient, Ptrace, Logging}
+use Rattle.smackfs.specs.declared.named_op.NamedOp.TheVariants as NamedOp
 
 -- the write that a text spells
 abbrev pub named : NamedOp → NamedWrite
-named (Set s o m) = NamedSet (placed s) (placed o) m
-named (Change s o allow deny) = NamedChange (placed s) (placed o) allow deny
-named (Revoke s) = NamedRevoke (placed s)
-named OnlyClear = NamedClear
-named (OnlyAdd l) = NamedAdd (placed l)
-named (Ambient l) = NamedAmbient (placed l)
-named (Ptrace n) = NamedPtrace n
-named (Logging n) = NamedLogging n
+named (NamedOp.Set s o m) = NamedSet (placed s) (placed o) m
+named (NamedOp.Change s o allow deny) = NamedChange (placed s) (placed o) allow deny
+named (NamedOp.Revoke s) = NamedRevoke (placed s)
+named NamedOp.OnlyClear = NamedClear
+named (NamedOp.OnlyAdd l) = NamedAdd (placed l)
+named (NamedOp.Ambient l) = NamedAmbient (placed l)
+named (NamedOp.Ptrace n) = NamedPtrace n
+named (NamedOp.Logging n) = NamedLogging n
 
 -- an answer, with its write as a text spells it
 abbrev pub seen_op : Result NamedOp BadLine → Result NamedWrite BadLine

@@ -4,7 +4,7 @@ use Rattle.std.specs.List.{AllByRecursion}
 use Rattle.std.specs.Bool.{OnFalse}
 use Rattle.std.proofs.lemmas.List.{take-append-le}
 use Rattle.smack_base.specs.declared.rule_op.RuleOp.{RuleOp}
-use Rattle.smack_base.specs.declared.cap.Cap.TheVariants.{MacAdmin}
+use Rattle.smack_base.specs.declared.cap.Cap.TheVariants as Cap
 use Rattle.rules_spec.specs.declared.Batch.{Batch}
 use Rattle.rules_spec.specs.Rulings.{ruling}
 use Rattle.rules_spec.specs.Creds.{is_effective}
@@ -15,7 +15,7 @@ use Rattle.world_spec.specs.Replays.{replay_of, version_of}
 use Rattle.script_spec.specs.Lines.{ScriptLine}
 use Rattle.record_spec.specs.declared.AskedLine.{AskedLine}
 use Rattle.record_spec.specs.declared.AskedWhat.{AskedWhat}
-use Rattle.record_spec.specs.declared.AskedWhat.TheVariants.{Ask, Refused, Wait}
+use Rattle.record_spec.specs.declared.AskedWhat.TheVariants as AskedWhat
 use Rattle.legal_spec.specs.Lines.{IsBatchOfLine, IsCallOfLine, IsAskedOfLine}
 use Rattle.live_table.specs.Lists.{Begins}
 use Rattle.live_table.proofs.Lists.{begins_self, begins_length}
@@ -181,16 +181,16 @@ went_batch full s l ls v w ops version top sound line c =
     let rule : version_of w.journal n ≡ ruling p.before = ap ruling
     (ap (take n) p.is ∙ (take-append-le n p.before (b ∷ []) (le_refl n) ∙ take_all n p.before (le_refl n))) in
     went_one full s l ls v w (batched n b (length v.history)) c.does c.made (refl, refl, line) tt
-    (stands_last w.journal p.before b p.is, sees.0, (λ i. is_effective (sees.1 i) MacAdmin (rule i)) ∙ p.effective)
+    (stands_last w.journal p.before b p.is, sees.0, (λ i. is_effective (sees.1 i) Cap.MacAdmin (rule i)) ∙ p.effective)
     (let y = c.whole in (omega arith, omega arith)) (le_refl (length v.history), begins_length g.history)
 
 abbrev pub line_of : TaskValue → ℕ → AskedWhat → AskedLine
 line_of v version what = record { task = v.number; seq = v.made + 1; version = version; what = what }
 
 seen_now : (a b : ℕ) (what : AskedWhat) → a ≤ b → IsSeen what a a b
-seen_now a b (Ask verdict) l = tt
-seen_now a b (Refused file fault) l = (le_refl a, l)
-seen_now a b (Wait pid) l = tt
+seen_now a b (AskedWhat.Ask verdict) l = tt
+seen_now a b (AskedWhat.Refused file fault) l = (le_refl a, l)
+seen_now a b (AskedWhat.Wait pid) l = tt
 
 -- a line that became a line of neither kind
 pub went_answer : (full : Bool) (s : Scripted) (l : ScriptLine) (ls : List ScriptLine) (v w : TaskValue) (version : ℕ) (what : AskedWhat)

@@ -1,12 +1,12 @@
 -- A fork: what the task and its child then did side by side, the adoption, and the wait.
 use Rattle.std.proofs.Common.{◌≡◌, ℕ, ◌+◌, ◌≤◌, ◌&&◌, List, [], ◌∷◌, ◌++◌, length, Bool, true, false, sym, refl, ap, ◌∙◌, subst, append_assoc, append-nil, arith, length-append, Option, Some, None, ⊎_elim, le_refl}
-use Rattle.world_spec.specs.declared.Call.TheVariants.{Task}
-use Rattle.world_spec.specs.declared.TaskCall.TheVariants.{Fork}
-use Rattle.world_spec.specs.declared.Reply.TheVariants.{Child}
+use Rattle.world_spec.specs.declared.Call.TheVariants as Call
+use Rattle.world_spec.specs.declared.TaskCall.TheVariants as TaskCall
+use Rattle.world_spec.specs.declared.Reply.TheVariants as Reply
 use Rattle.world_spec.specs.declared.Entry.{Entry}
 use Rattle.script_spec.specs.Lines.{ScriptLine}
 use Rattle.record_spec.specs.declared.AskedLine.{AskedLine}
-use Rattle.record_spec.specs.declared.AskedWhat.TheVariants.{Wait}
+use Rattle.record_spec.specs.declared.AskedWhat.TheVariants as AskedWhat
 use Rattle.legal_spec.specs.Calls.{Stands}
 use Rattle.live_table.specs.Lists.{Has, here, there}
 use Rattle.live_table.specs.Batches.{batches_by}
@@ -33,7 +33,7 @@ waits_none s pid w l ls = record {
 }
 
 abbrev pub wait_of : TaskValue → ℕ → AskedLine
-wait_of w pid = line_of w w.version (Wait (record { 0 = pid }))
+wait_of w pid = line_of w w.version (AskedWhat.Wait (record { 0 = pid }))
 
 pub waits_one : (s : Scripted) (pid : ℕ) (w : TaskValue) (l : ScriptLine) (ls : List ScriptLine) → w.version ≤ length w.journal → WaitsFor s l pid
     → Waits s pid w (Some (wait_of w pid)) (w.made + 1) (awaited (Some (wait_of w pid)) l ls) ls
@@ -61,7 +61,7 @@ both false g e = absurd (let e' : false ≡ true = e in cc)
 
 module _ (s : Scripted) (pid : ℕ) (ls mid rest left : List ScriptLine) (v u u' c c' w : TaskValue) (r : Entered) (wait : Option AskedLine)
     (made' : ℕ) where
-  unfoldable pub went_fork : (f g : Bool) (l : ScriptLine) → ForksTask s l pid → Calls v u (Task (Fork (record { 0 = pid }))) r → r.reply ≡ Child c.number
+  unfoldable pub went_fork : (f g : Bool) (l : ScriptLine) → ForksTask s l pid → Calls v u (Call.Task (TaskCall.Fork (record { 0 = pid }))) r → r.reply ≡ Reply.Child c.number
       → Starts u c c.number → Went f s ls mid u u' → Went g s (lines_by pid s.lines) left c c' → (g ≡ true → left ≡ []) → Adopts u' c' w
       → Waits s pid w wait made' mid rest → Went (f && g) s (l ∷ ls) rest v (record w { made = made' })
   went_fork f g l line call_ is_child st mine theirs done adopted wt = record {
@@ -166,7 +166,7 @@ module _ (s : Scripted) (pid : ℕ) (ls mid rest left : List ScriptLine) (v u u'
     within = adopted.within;
   } where
     e : Entry
-    e = entry_of v.number (v.made + 1) (Task (Fork (record { 0 = pid }))) r.version r.checks r.reply
+    e = entry_of v.number (v.made + 1) (Call.Task (TaskCall.Fork (record { 0 = pid }))) r.version r.checks r.reply
 
     n : ℕ
     n = length call_.enters.before

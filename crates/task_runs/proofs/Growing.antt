@@ -2,19 +2,19 @@
 use Rattle.std.proofs.Common.{◌≡◌, ℕ, zero, suc, ◌<◌, ◌≤◌, List, [], ◌∷◌, ◌++◌, length, take, fold, Bool, true, false, sym, refl, ap, ◌∙◌, subst, arith}
 use Rattle.std.specs.List.{AllByRecursion}
 use Rattle.std.proofs.lemmas.List.{take-append-le}
-use Rattle.smack_base.specs.declared.cap.Cap.TheVariants.{MacAdmin}
+use Rattle.smack_base.specs.declared.cap.Cap.TheVariants as Cap
 use Rattle.rules_spec.specs.declared.Batch.{Batch}
 use Rattle.rules_spec.specs.Rulings.{Ruling, ruling}
 use Rattle.rules_spec.specs.Cases.{verdict_of_cases}
 use Rattle.rules_spec.specs.Creds.{is_effective}
 use Rattle.file_spec.specs.declared.Refusal.{Refusal}
-use Rattle.file_spec.specs.declared.Refusal.TheVariants.{NoSuchFile, TooLong, BadLine, UnknownLabel, NotPrivileged, JournalFull}
+use Rattle.file_spec.specs.declared.Refusal.TheVariants as Refusal
 use Rattle.world_spec.specs.declared.Entry.{Entry}
 use Rattle.world_spec.specs.Worlds.{World, world_first, creds_of}
 use Rattle.world_spec.specs.Steps.{step}
 use Rattle.world_spec.specs.Replays.{after_entry, replay_of, version_of}
 use Rattle.record_spec.specs.declared.AskedWhat.{AskedWhat}
-use Rattle.record_spec.specs.declared.AskedWhat.TheVariants.{Ask, Refused, Wait}
+use Rattle.record_spec.specs.declared.AskedWhat.TheVariants as AskedWhat
 use Rattle.live_table.specs.Lists.{Begins, Has, here, there}
 use Rattle.live_table.specs.Batches.{batches_by}
 use Rattle.live_table.proofs.Lists.{has_left, has_right, begins_length}
@@ -76,22 +76,22 @@ module _ (j j' : List Batch) (b : Begins j' j) where
     creds_grow k m s = ap (λ (w : World). creds_of w k) (sees_world k m s)
 
     effective_grow : (k m n : ℕ) (x : Bool) → n ≤ length j → Sees j h k m
-        → is_effective (creds_after j h k m) MacAdmin (version_of j n) ≡ x
-        → is_effective (creds_after j' h' k m) MacAdmin (version_of j' n) ≡ x
-    effective_grow k m n x l s e = (λ i. is_effective (creds_grow k m s i) MacAdmin (version_grow j j' n b l i)) ∙ e
+        → is_effective (creds_after j h k m) Cap.MacAdmin (version_of j n) ≡ x
+        → is_effective (creds_after j' h' k m) Cap.MacAdmin (version_of j' n) ≡ x
+    effective_grow k m n x l s e = (λ i. is_effective (creds_grow k m s i) Cap.MacAdmin (version_grow j j' n b l i)) ∙ e
 
     refusal_grow : (k m v : ℕ) (f : Refusal) → v ≤ length j → IsTrueRefusal j h k m v f → IsTrueRefusal j' h' k m v f
-    refusal_grow k m v NoSuchFile l a = tt
-    refusal_grow k m v TooLong l a = tt
-    refusal_grow k m v (BadLine bad) l a = tt
-    refusal_grow k m v (UnknownLabel line) l a = tt
-    refusal_grow k m v NotPrivileged l a = (sees_grow k m a.0, effective_grow k m v false l a.0 a.1)
-    refusal_grow k m v (JournalFull rows) l a = a ∙ ap rows_of (sym (take_grow j j' v b l))
+    refusal_grow k m v Refusal.NoSuchFile l a = tt
+    refusal_grow k m v Refusal.TooLong l a = tt
+    refusal_grow k m v (Refusal.BadLine bad) l a = tt
+    refusal_grow k m v (Refusal.UnknownLabel line) l a = tt
+    refusal_grow k m v Refusal.NotPrivileged l a = (sees_grow k m a.0, effective_grow k m v false l a.0 a.1)
+    refusal_grow k m v (Refusal.JournalFull rows) l a = a ∙ ap rows_of (sym (take_grow j j' v b l))
 
     answer_grow : (k m v : ℕ) (what : AskedWhat) → v ≤ length j → IsTrueAnswer j h k m v what → IsTrueAnswer j' h' k m v what
-    answer_grow k m v (Ask x) l a = a ∙ ap (λ (r : Ruling). verdict_of_cases r x.subject x.object x.modes) (sym (version_grow j j' v b l))
-    answer_grow k m v (Refused file fault) l a = refusal_grow k m v fault l a
-    answer_grow k m v (Wait pid) l a = tt
+    answer_grow k m v (AskedWhat.Ask x) l a = a ∙ ap (λ (r : Ruling). verdict_of_cases r x.subject x.object x.modes) (sym (version_grow j j' v b l))
+    answer_grow k m v (AskedWhat.Refused file fault) l a = refusal_grow k m v fault l a
+    answer_grow k m v (AskedWhat.Wait pid) l a = tt
 
     at_grow : (k : ℕ) (d : Deed) → IsAt j h k d → IsAt j' h' k d
     at_grow k (entered e n) i = stands_grow h h' n e g i

@@ -4,7 +4,7 @@ use Rattle.std.specs.Bool.{OnFalse}
 use Rattle.std.proofs.lemmas.List.Sums.{sum_by-cons}
 use Rattle.smack_base.specs.declared.ids.LabelId.{LabelId}
 use Rattle.smack_base.specs.declared.modes.Modes.{Modes}
-use Rattle.smack_base.specs.declared.cap.Cap.TheVariants.{MacAdmin}
+use Rattle.smack_base.specs.declared.cap.Cap.TheVariants as Cap
 use Rattle.rules_spec.specs.declared.Batch.{Batch}
 use Rattle.rules_spec.specs.declared.Verdict.{Verdict}
 use Rattle.rules_spec.specs.Rulings.{ruling}
@@ -12,17 +12,17 @@ use Rattle.rules_spec.specs.Cases.{verdict_of_cases}
 use Rattle.rules_spec.specs.Creds.{is_effective}
 use Rattle.text_spec.specs.Names.{id_of}
 use Rattle.file_spec.specs.declared.Refusal.{Refusal}
-use Rattle.file_spec.specs.declared.Refusal.TheVariants.{NoSuchFile, TooLong, BadLine, UnknownLabel, NotPrivileged, JournalFull}
+use Rattle.file_spec.specs.declared.Refusal.TheVariants as Refusal
 use Rattle.file_spec.specs.declared.Compiled.{Compiled}
-use Rattle.file_spec.specs.declared.Compiled.TheVariants.{Rules, SelfRules, Relabels}
+use Rattle.file_spec.specs.declared.Compiled.TheVariants as Compiled
 use Rattle.file_spec.specs.Files.{compiled}
 use Rattle.world_spec.specs.declared.Call.{Call}
-use Rattle.world_spec.specs.declared.Call.TheVariants.{Task}
+use Rattle.world_spec.specs.declared.Call.TheVariants as Call
 use Rattle.world_spec.specs.Replays.{version_of}
-use Rattle.script_spec.specs.declared.Verb.TheVariants.{Write, Ask as AskVerb}
+use Rattle.script_spec.specs.declared.Verb.TheVariants as Verb
 use Rattle.script_spec.specs.Lines.{ScriptLine, word_in, verb_in}
 use Rattle.record_spec.specs.declared.AskedLine.{AskedLine}
-use Rattle.record_spec.specs.declared.AskedWhat.TheVariants.{Ask, Refused}
+use Rattle.record_spec.specs.declared.AskedWhat.TheVariants as AskedWhat
 use Rattle.replay_spec.specs.Calls.{call_by, file_call, of_one}
 use Rattle.replay_spec.specs.Replays.{modes_in}
 use Rattle.legal_spec.specs.Legal.{rows_of}
@@ -52,13 +52,13 @@ whole_version j n e = take_all n j (omega (arith, e))
 
 module _ (s : Scripted) (l : ScriptLine) (ls : List ScriptLine) (v w : TaskValue) (x y : List AskedLine) where
   -- a question was answered
-  pub ran_asked : (b : Bool) (version : ℕ) (subject object : LabelId) (m : Modes) (verdict : Verdict) → verb_in l ≡ Some AskVerb
+  pub ran_asked : (b : Bool) (version : ℕ) (subject object : LabelId) (m : Modes) (verdict : Verdict) → verb_in l ≡ Some Verb.Ask
       → id_of s.labels (word_in 1 l) ≡ Some subject → id_of s.labels (word_in 2 l) ≡ Some object → modes_in (word_in 3 l) ≡ Some m
       → Answers v w version → verdict ≡ verdict_of_cases (ruling w.journal) subject object m
-      → OnFalse b (y ≡ x ++ line_of v version (Ask verdict) ∷ []) → Ran b s (l ∷ ls) ls v w x y
+      → OnFalse b (y ≡ x ++ line_of v version (AskedWhat.Ask verdict) ∷ []) → Ran b s (l ∷ ls) ls v w x y
   ran_asked b version subject object m verdict verb su ob mo a is more =
-      ran_answer b s l ls v w x y version (Ask verdict) a.does a.made a.now
-      (subst (λ (d : Verdict). IsAskedOfLine s.labels s.names l (Ask d)) (sym is) (verb, su, ob, mo)) tt
+      ran_answer b s l ls v w x y version (AskedWhat.Ask verdict) a.does a.made a.now
+      (subst (λ (d : Verdict). IsAskedOfLine s.labels s.names l (AskedWhat.Ask d)) (sym is) (verb, su, ob, mo)) tt
       (subst (λ (d : Verdict). d ≡ verdict_of_cases (version_of w.journal version) d.subject d.object d.modes) (sym is)
       (ap (λ (j : List Batch). verdict_of_cases (ruling j) subject object m) (sym (whole_version w.journal version (a.now ∙ a.whole)))))
       more
@@ -67,38 +67,38 @@ module _ (s : Scripted) (l : ScriptLine) (ls : List ScriptLine) (v w : TaskValue
   text_does version top t = subst (λ (u : TaskValue). Does v u [] []) (sym t.0) (does_count v (v.made + 1) top)
 
   abbrev Refuses : Bool → ℕ → Refusal → Type 0
-  Refuses b version fault = OnFalse b (y ≡ x ++ line_of v version (Refused (word_in 1 l) fault) ∷ [])
+  Refuses b version fault = OnFalse b (y ≡ x ++ line_of v version (AskedWhat.Refused (word_in 1 l) fault) ∷ [])
 
   text_refused : (b : Bool) (version : ℕ) (fault : Refusal) → v.version ≤ length v.journal → IsTextRefused v w version
-      → IsAskedOfLine s.labels s.names l (Refused (word_in 1 l) fault)
-      → IsTrueAnswer w.journal w.history v.number (length v.history) version (Refused (word_in 1 l) fault) → Refuses b version fault
+      → IsAskedOfLine s.labels s.names l (AskedWhat.Refused (word_in 1 l) fault)
+      → IsTrueAnswer w.journal w.history v.number (length v.history) version (AskedWhat.Refused (word_in 1 l) fault) → Refuses b version fault
       → Ran b s (l ∷ ls) ls v w x y
   text_refused b version fault top t line answer more =
-      ran_answer b s l ls v w x y version (Refused (word_in 1 l) fault) (text_does version top t) (ap (λ (u : TaskValue). u.made) t.0)
+      ran_answer b s l ls v w x y version (AskedWhat.Refused (word_in 1 l) fault) (text_does version top t) (ap (λ (u : TaskValue). u.made) t.0)
       (t.1 ∙ sym (ap (λ (u : TaskValue). u.version) t.0)) line tt answer more
 
   -- a text was refused
-  pub ran_refused : (b : Bool) (version : ℕ) (fault : Refusal) → verb_in l ≡ Some Write → v.version ≤ length v.journal → IsSound v
+  pub ran_refused : (b : Bool) (version : ℕ) (fault : Refusal) → verb_in l ≡ Some Verb.Write → v.version ≤ length v.journal → IsSound v
       → IsRefused s.labels v w (word_in 1 l) l.text.bytes version fault → Refuses b version fault → Ran b s (l ∷ ls) ls v w x y
-  ran_refused b version NoSuchFile verb top sound r more = text_refused b version NoSuchFile top r.1 (verb, refl, r.0) tt more
-  ran_refused b version TooLong verb top sound r more = text_refused b version TooLong top r.1 (verb, refl, r.0) tt more
-  ran_refused b version (BadLine bad) verb top sound r more = text_refused b version (BadLine bad) top r.1 (verb, refl, r.0) tt more
-  ran_refused b version (UnknownLabel n) verb top sound r more = text_refused b version (UnknownLabel n) top r.1 (verb, refl, r.0) tt more
-  ran_refused b version NotPrivileged verb top sound r more =
+  ran_refused b version Refusal.NoSuchFile verb top sound r more = text_refused b version Refusal.NoSuchFile top r.1 (verb, refl, r.0) tt more
+  ran_refused b version Refusal.TooLong verb top sound r more = text_refused b version Refusal.TooLong top r.1 (verb, refl, r.0) tt more
+  ran_refused b version (Refusal.BadLine bad) verb top sound r more = text_refused b version (Refusal.BadLine bad) top r.1 (verb, refl, r.0) tt more
+  ran_refused b version (Refusal.UnknownLabel n) verb top sound r more = text_refused b version (Refusal.UnknownLabel n) top r.1 (verb, refl, r.0) tt more
+  ran_refused b version Refusal.NotPrivileged verb top sound r more =
       let a = r.2 in
       let g = a.does.grows in
       let sees = sees_before v w g.journal g.history sound in
-      ran_answer b s l ls v w x y version (Refused (word_in 1 l) NotPrivileged) a.does a.made a.now (verb, refl, (r.0, r.1)) tt
-      (sees.0, (λ i. is_effective (sees.1 i) MacAdmin (ruling (whole_version w.journal version (a.now ∙ a.whole) i))) ∙ r.3) more
-  ran_refused b version (JournalFull rows) verb top sound r more =
+      ran_answer b s l ls v w x y version (AskedWhat.Refused (word_in 1 l) Refusal.NotPrivileged) a.does a.made a.now (verb, refl, (r.0, r.1)) tt
+      (sees.0, (λ i. is_effective (sees.1 i) Cap.MacAdmin (ruling (whole_version w.journal version (a.now ∙ a.whole) i))) ∙ r.3) more
+  ran_refused b version (Refusal.JournalFull rows) verb top sound r more =
       let a = r.2 in
-      ran_answer b s l ls v w x y version (Refused (word_in 1 l) (JournalFull rows)) a.does a.made a.now (verb, refl, (r.0, r.1, r.5)) tt
+      ran_answer b s l ls v w x y version (AskedWhat.Refused (word_in 1 l) (Refusal.JournalFull rows)) a.does a.made a.now (verb, refl, (r.0, r.1, r.5)) tt
       (r.4 ∙ (rows_count w.journal ∙ ap rows_of (sym (whole_version w.journal version (a.now ∙ a.whole))))) more
 
-same_call : (c : Result Compiled Refusal) → written_call c ≡ of_one (file_call c) (λ call. Task call)
-same_call (Ok (Rules ops)) = refl
-same_call (Ok (SelfRules rules)) = refl
-same_call (Ok (Relabels labels)) = refl
+same_call : (c : Result Compiled Refusal) → written_call c ≡ of_one (file_call c) (λ call. Call.Task call)
+same_call (Ok (Compiled.Rules ops)) = refl
+same_call (Ok (Compiled.SelfRules rules)) = refl
+same_call (Ok (Compiled.Relabels labels)) = refl
 same_call (Err fault) = refl
 
 abbrev is_fork_in : Option Call → Bool
@@ -106,9 +106,9 @@ is_fork_in None = false
 is_fork_in (Some call) = is_fork call
 
 none_forks : (c : Result Compiled Refusal) → is_fork_in (written_call c) ≡ false
-none_forks (Ok (Rules ops)) = refl
-none_forks (Ok (SelfRules rules)) = refl
-none_forks (Ok (Relabels labels)) = refl
+none_forks (Ok (Compiled.Rules ops)) = refl
+none_forks (Ok (Compiled.SelfRules rules)) = refl
+none_forks (Ok (Compiled.Relabels labels)) = refl
 none_forks (Err fault) = refl
 
 plain_call : (c : Result Compiled Refusal) (call : Call) → written_call c ≡ Some call → is_fork call ≡ false
@@ -116,7 +116,7 @@ plain_call c call e = ap is_fork_in (sym e) ∙ none_forks c
 
 -- a text that became an object call
 pub ran_written : (s : Scripted) (l : ScriptLine) (ls : List ScriptLine) (v w : TaskValue) (x : List AskedLine) (call : Call) (r : Entered)
-    → verb_in l ≡ Some Write → written_call (compiled s.labels (word_in 1 l) l.text.bytes) ≡ Some call → Calls v w call r
+    → verb_in l ≡ Some Verb.Write → written_call (compiled s.labels (word_in 1 l) l.text.bytes) ≡ Some call → Calls v w call r
     → Ran false s (l ∷ ls) ls v w x x
 ran_written s l ls v w x call r verb is c = ran_entry s l ls v w x call r
     (ap (call_by s.labels s.names l) verb ∙ (sym (same_call (compiled s.labels (word_in 1 l) l.text.bytes)) ∙ is))

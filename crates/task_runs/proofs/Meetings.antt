@@ -1,8 +1,8 @@
 -- Where the two halves of a fork meet, and what the line of the fork comes to.
 use Rattle.std.proofs.Common.{◌≡◌, ℕ, ◌+◌, ◌<◌, ◌&&◌, not, List, [], ◌∷◌, ◌++◌, Bool, true, false, sym, refl, ap, ◌∙◌, subst, append_assoc, append-nil, Option, Some, None, ⊎_elim, inl, inr}
-use Rattle.world_spec.specs.declared.Call.TheVariants.{Task}
-use Rattle.world_spec.specs.declared.TaskCall.TheVariants.{Fork}
-use Rattle.world_spec.specs.declared.Reply.TheVariants.{Child}
+use Rattle.world_spec.specs.declared.Call.TheVariants as Call
+use Rattle.world_spec.specs.declared.TaskCall.TheVariants as TaskCall
+use Rattle.world_spec.specs.declared.Reply.TheVariants as Reply
 use Rattle.script_spec.specs.Lines.{ScriptLine}
 use Rattle.record_spec.specs.declared.AskedLine.{AskedLine}
 use Rattle.smack_kernel.specs.Tasks.{TaskValue, Calls, Starts, Adopts}
@@ -88,7 +88,7 @@ pub record LinesOn (s : Scripted) (pid until to at : ℕ) (more rest : List Scri
 -- A fork's line: ls are the task's lines up to the wait or the end, more those from there on.
 module _ (s : Scripted) (pid : ℕ) (l : ScriptLine) (ls more rest : List ScriptLine) (v u u' c c' w : TaskValue) (r : Entered)
     (asked mine_asked told after : List AskedLine) (until to at : ℕ) where
-  pub fork_ran : (a b stop : Bool) → ForksTask s l pid → Calls v u (Task (Fork (record { 0 = pid }))) r → r.reply ≡ Child c.number
+  pub fork_ran : (a b stop : Bool) → ForksTask s l pid → Calls v u (Call.Task (TaskCall.Fork (record { 0 = pid }))) r → r.reply ≡ Reply.Child c.number
       → Starts u c c.number → Ran a s ls [] u u' asked mine_asked → Ran b s (lines_by pid s.lines) [] c c' [] told
       → Met s pid a b stop u' c' w mine_asked told after until to at → LinesOn s pid until to at more rest
       → Ran stop s (l ∷ (ls ++ more)) rest v w asked after

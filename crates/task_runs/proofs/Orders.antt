@@ -5,8 +5,8 @@ use Rattle.std.proofs.lemmas.Bool.{eqb-true, eqb-false, eq-eqb, ne_eqb, or_parts
 use Rattle.std.proofs.lemmas.List.Folds.{list_any-append}
 use Rattle.smack_base.specs.declared.ids.Pid.{Pid}
 use Rattle.script_spec.specs.declared.Verb.{Verb}
-use Rattle.script_spec.specs.declared.Verb.TheVariants.{Write, Ask, Wait, Task, Tree}
-use Rattle.script_spec.specs.declared.TaskVerb.TheVariants.{Fork, Exit, Relabel, Drop, Kill, Take, Trace}
+use Rattle.script_spec.specs.declared.Verb.TheVariants as Verb
+use Rattle.script_spec.specs.declared.TaskVerb.TheVariants as TaskVerb
 use Rattle.script_spec.specs.Lines.{ScriptLine, word_in, verb_in}
 use Rattle.script_spec.specs.Tasks.{change_by, change_of}
 use Rattle.replay_spec.specs.Calls.{pid_in}
@@ -78,24 +78,24 @@ module _ (names : List (List ℕ)) (c : ℕ) (P : Option (List ℕ) → Type 0) 
       }
       by false e p = absurd (some p)
 
-  one_line : (X : List ℕ) → IsNew c X → (l : ScriptLine) → ((labels : List (List ℕ)) → (verb_in l ≡ Some Wait) × (pid_in names (word_in 1 l) ≡ Some (record { 0 = c })) → ⊥)
+  one_line : (X : List ℕ) → IsNew c X → (l : ScriptLine) → ((labels : List (List ℕ)) → (verb_in l ≡ Some Verb.Wait) × (pid_in names (word_in 1 l) ≡ Some (record { 0 = c })) → ⊥)
       → IsAbove (open_after names X (change_of l)) (open_after names (X ++ c ∷ []) (change_of l))
   one_line X new l not_so = by (verb_in l) refl
     where
       by : (verb : Option Verb) → verb_in l ≡ verb
           → IsAbove (open_after names X (change_by verb l)) (open_after names (X ++ c ∷ []) (change_by verb l))
       by None e = kept X new
-      by (Some Write) e = kept X new
-      by (Some Ask) e = kept X new
-      by (Some Wait) e = waited X new (pid_in names (word_in 1 l)) (λ is. not_so [] (e, is))
-      by (Some (Task Fork)) e = forked X new (pid_in names (word_in 1 l))
-      by (Some (Task Exit)) e = kept X new
-      by (Some (Task Relabel)) e = kept X new
-      by (Some (Task Drop)) e = kept X new
-      by (Some (Task Kill)) e = kept X new
-      by (Some (Task Take)) e = kept X new
-      by (Some (Task Trace)) e = kept X new
-      by (Some (Tree verb)) e = kept X new
+      by (Some Verb.Write) e = kept X new
+      by (Some Verb.Ask) e = kept X new
+      by (Some Verb.Wait) e = waited X new (pid_in names (word_in 1 l)) (λ is. not_so [] (e, is))
+      by (Some (Verb.Task TaskVerb.Fork)) e = forked X new (pid_in names (word_in 1 l))
+      by (Some (Verb.Task TaskVerb.Exit)) e = kept X new
+      by (Some (Verb.Task TaskVerb.Relabel)) e = kept X new
+      by (Some (Verb.Task TaskVerb.Drop)) e = kept X new
+      by (Some (Verb.Task TaskVerb.Kill)) e = kept X new
+      by (Some (Verb.Task TaskVerb.Take)) e = kept X new
+      by (Some (Verb.Task TaskVerb.Trace)) e = kept X new
+      by (Some (Verb.Tree verb)) e = kept X new
 
 module _ (s : Scripted) (child : Pid) where
   -- lines that do not wait for an open child are orderly without it
@@ -128,7 +128,7 @@ module _ (s : Scripted) (child : Pid) where
       behind a.left ls l rest none.1 a.new waits a.holds
 
   -- a line that forks a child
-  module _ (f : ScriptLine) (verb : verb_in f ≡ Some (Task Fork)) (forks : pid_in s.names (word_in 1 f) ≡ Some child) where
+  module _ (f : ScriptLine) (verb : verb_in f ≡ Some (Verb.Task TaskVerb.Fork)) (forks : pid_in s.names (word_in 1 f) ≡ Some child) where
     opened : (ls : List ScriptLine) → IsOrderly s (f ∷ ls) → IsOrderlyBehind s (Some (child.0 ∷ [])) ls
     opened ls is = subst (λ found. IsOrderlyBehind s (with_open [] found) ls) forks
         (subst (λ v. IsOrderlyBehind s (open_after s.names [] (change_by v f)) ls) verb is.1)

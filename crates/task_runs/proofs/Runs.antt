@@ -5,7 +5,7 @@ use Rattle.world_spec.specs.declared.Entry.{Entry}
 use Rattle.script_spec.specs.Lines.{ScriptLine}
 use Rattle.record_spec.specs.declared.AskedLine.{AskedLine}
 use Rattle.record_spec.specs.declared.AskedWhat.{AskedWhat}
-use Rattle.record_spec.specs.declared.AskedWhat.TheVariants.{Ask, Refused, Wait}
+use Rattle.record_spec.specs.declared.AskedWhat.TheVariants as AskedWhat
 use Rattle.live_table.specs.Lists.{Has, here, there}
 use Rattle.live_table.specs.Batches.{batches_by}
 use Rattle.live_table.proofs.Lists.{has_left, has_right, has_either, begins_trans}
@@ -80,9 +80,9 @@ version_clock = record { low = low; rises = rises } where
   rises a (answered y m) b s = let x = s.0 in let z = s.1 in omega arith
 
 seen_low : (w : AskedWhat) (a a' m b : ℕ) → a' ≤ a → IsSeen w a m b → IsSeen w a' m b
-seen_low (Ask x) a a' m b l i = tt
-seen_low (Refused file fault) a a' m b l i = let z = i.0 in (omega arith, i.1)
-seen_low (Wait pid) a a' m b l i = tt
+seen_low (AskedWhat.Ask x) a a' m b l i = tt
+seen_low (AskedWhat.Refused file fault) a a' m b l i = let z = i.0 in (omega arith, i.1)
+seen_low (AskedWhat.Wait pid) a a' m b l i = tt
 
 pub place_clock : Clock by_place
 place_clock = record { low = low; rises = rises } where

@@ -1,9 +1,9 @@
 -- The causes for which workers stop, from the line where one stops to the task that adopted all others.
 use Rattle.std.proofs.Common.{◌≡◌, ℕ, ◌+◌, ◌≤◌, List, [], ◌∷◌, ◌++◌, length, Bool, true, sym, refl, ap, ◌∙◌, subst, arith, None, ⊎_elim, inl, inr}
 use Rattle.smack_base.specs.declared.ids.Pid.{Pid}
-use Rattle.world_spec.specs.declared.Call.TheVariants.{Task}
-use Rattle.world_spec.specs.declared.TaskCall.TheVariants.{Fork}
-use Rattle.world_spec.specs.declared.Reply.TheVariants.{Child}
+use Rattle.world_spec.specs.declared.Call.TheVariants as Call
+use Rattle.world_spec.specs.declared.TaskCall.TheVariants as TaskCall
+use Rattle.world_spec.specs.declared.Reply.TheVariants as Reply
 use Rattle.script_spec.specs.Lines.{ScriptLine}
 use Rattle.smack_world.specs.Stepping.{most_entries}
 use Rattle.live_table.specs.Lists.{Begins, Has, here, there}
@@ -33,10 +33,10 @@ pub out_here : (s : Scripted) (l : ScriptLine) (ls : List ScriptLine) (v w : Tas
 out_here s l ls v w st e = record { full = omega (arith, e); lacks = inl (let a = st.made in omega (arith, a)) }
 
 -- a fork that made no task
-pub none_here : (v w : TaskValue) (pid : Pid) (r : Entered) → Calls v w (Task (Fork pid)) r → child_of r.reply ≡ None → HasForkedNone w
+pub none_here : (v w : TaskValue) (pid : Pid) (r : Entered) → Calls v w (Call.Task (TaskCall.Fork pid)) r → child_of r.reply ≡ None → HasForkedNone w
 none_here v w pid r c none = record {
-  fork = next_entry v (Task (Fork pid)) r;
-  there = subst (Has (next_entry v (Task (Fork pid)) r)) (sym c.enters.is) (has_right c.enters.before here);
+  fork = next_entry v (Call.Task (TaskCall.Fork pid)) r;
+  there = subst (Has (next_entry v (Call.Task (TaskCall.Fork pid)) r)) (sym c.enters.is) (has_right c.enters.before here);
   own = subst (λ k. Has v.number (k ∷ w.ended)) (sym c.does.number) here;
   pid = pid;
   is = refl;
@@ -120,17 +120,17 @@ module _ (s : Scripted) (v c w : TaskValue) (a : Adopts v c w) where
   calls_mine o = ⊎_elim (λ m. inl (omega (arith, m, a.made))) (λ b. inr (b.0, in_own b.0 b.1, forked_mine b.0 b.1 b.2, b.3)) o
 
   -- the child of a fork when it was adopted
-  module _ (g : Bool) (left : List ScriptLine) (x u d : TaskValue) (pid : Pid) (r : Entered) (call_ : Calls x u (Task (Fork pid)) r)
-      (is_child : r.reply ≡ Child d.number) (st : Starts u d d.number) (more : Begins v.history u.history)
+  module _ (g : Bool) (left : List ScriptLine) (x u d : TaskValue) (pid : Pid) (r : Entered) (call_ : Calls x u (Call.Task (TaskCall.Fork pid)) r)
+      (is_child : r.reply ≡ Reply.Child d.number) (st : Starts u d d.number) (more : Begins v.history u.history)
       (went : Went g s (lines_by pid.0 s.lines) left d c) where
     is_theirs : Has d.number (c.number ∷ c.ended)
     is_theirs = subst (λ k. Has d.number (k ∷ c.ended)) (sym went.number) here
 
     abbrev child : IsForkedTask s w d.number
     child = record {
-      fork = next_entry x (Task (Fork pid)) r;
-      there = has_more w.history u.history (next_entry x (Task (Fork pid)) r) (begins_trans a.history more)
-          (subst (Has (next_entry x (Task (Fork pid)) r)) (sym call_.enters.is) (has_right call_.enters.before here));
+      fork = next_entry x (Call.Task (TaskCall.Fork pid)) r;
+      there = has_more w.history u.history (next_entry x (Call.Task (TaskCall.Fork pid)) r) (begins_trans a.history more)
+          (subst (Has (next_entry x (Call.Task (TaskCall.Fork pid)) r)) (sym call_.enters.is) (has_right call_.enters.before here));
       pid = pid.0;
       is = (refl, is_child);
       calls = own went.run;

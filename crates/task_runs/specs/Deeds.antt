@@ -1,18 +1,18 @@
 use Rattle.std.specs.Prelude.{◌≡◌, ℕ, ◌+◌, ◌<◌, ◌≤◌, List, [], ◌∷◌, length, take, Bool, true, false, None}
 use Rattle.std.specs.List.{AllByRecursion}
-use Rattle.smack_base.specs.declared.cap.Cap.TheVariants.{MacAdmin}
+use Rattle.smack_base.specs.declared.cap.Cap.TheVariants as Cap
 use Rattle.rules_spec.specs.declared.Batch.{Batch}
 use Rattle.rules_spec.specs.Cases.{verdict_of_cases}
 use Rattle.rules_spec.specs.Creds.{Creds, is_effective}
 use Rattle.file_spec.specs.declared.Refusal.{Refusal}
-use Rattle.file_spec.specs.declared.Refusal.TheVariants.{NoSuchFile, TooLong, BadLine, UnknownLabel, NotPrivileged, JournalFull}
+use Rattle.file_spec.specs.declared.Refusal.TheVariants as Refusal
 use Rattle.world_spec.specs.declared.Entry.{Entry}
 use Rattle.world_spec.specs.Worlds.{creds_of}
 use Rattle.world_spec.specs.Replays.{replay_of, version_of}
 use Rattle.script_spec.specs.Lines.{ScriptLine}
 use Rattle.record_spec.specs.declared.AskedLine.{AskedLine}
 use Rattle.record_spec.specs.declared.AskedWhat.{AskedWhat}
-use Rattle.record_spec.specs.declared.AskedWhat.TheVariants.{Ask, Refused, Wait}
+use Rattle.record_spec.specs.declared.AskedWhat.TheVariants as AskedWhat
 use Rattle.live_table.specs.Batches.{batches_by}
 use Rattle.legal_spec.specs.Calls.{Stands}
 use Rattle.legal_spec.specs.Legal.{rows_of}
@@ -63,26 +63,26 @@ pub record Sees (j : List Batch) (h : List Entry) (k m : ℕ) : Type 0 where
 -- Why a text was refused is so. Want of privilege: CAP_MAC_ADMIN is not effective in the version for the credentials
 -- that the task had. Want of room: these are the rows of the version.
 abbrev pub IsTrueRefusal : List Batch → List Entry → ℕ → ℕ → ℕ → Refusal → Type 0
-IsTrueRefusal j h k m v NoSuchFile = Unit {0}
-IsTrueRefusal j h k m v TooLong = Unit {0}
-IsTrueRefusal j h k m v (BadLine bad) = Unit {0}
-IsTrueRefusal j h k m v (UnknownLabel line) = Unit {0}
-IsTrueRefusal j h k m v NotPrivileged =
-    Sees j h k m × (is_effective (creds_after j h k m) MacAdmin (version_of j v) ≡ false)
-IsTrueRefusal j h k m v (JournalFull rows) = rows ≡ rows_of (take v j)
+IsTrueRefusal j h k m v Refusal.NoSuchFile = Unit {0}
+IsTrueRefusal j h k m v Refusal.TooLong = Unit {0}
+IsTrueRefusal j h k m v (Refusal.BadLine bad) = Unit {0}
+IsTrueRefusal j h k m v (Refusal.UnknownLabel line) = Unit {0}
+IsTrueRefusal j h k m v Refusal.NotPrivileged =
+    Sees j h k m × (is_effective (creds_after j h k m) Cap.MacAdmin (version_of j v) ≡ false)
+IsTrueRefusal j h k m v (Refusal.JournalFull rows) = rows ≡ rows_of (take v j)
 
 -- what an asked line answered is so in its version
 abbrev pub IsTrueAnswer : List Batch → List Entry → ℕ → ℕ → ℕ → AskedWhat → Type 0
-IsTrueAnswer j h k m v (Ask verdict) = verdict ≡ verdict_of_cases (version_of j v) verdict.subject verdict.object verdict.modes
-IsTrueAnswer j h k m v (Refused file fault) = IsTrueRefusal j h k m v fault
-IsTrueAnswer j h k m v (Wait pid) = Unit {0}
+IsTrueAnswer j h k m v (AskedWhat.Ask verdict) = verdict ≡ verdict_of_cases (version_of j v) verdict.subject verdict.object verdict.modes
+IsTrueAnswer j h k m v (AskedWhat.Refused file fault) = IsTrueRefusal j h k m v fault
+IsTrueAnswer j h k m v (AskedWhat.Wait pid) = Unit {0}
 
 -- Where a call of task k stands, and that it is lawful there: the task of a batch had CAP_MAC_ADMIN effective in the
 -- version before it, for the credentials that it then had.
 abbrev pub IsAt : List Batch → List Entry → ℕ → Deed → Type 0
 IsAt j h k (entered e n) = Stands h n e
 IsAt j h k (batched n b m) =
-    Stands j n b × Sees j h k m × (is_effective (creds_after j h k m) MacAdmin (version_of j n) ≡ true)
+    Stands j n b × Sees j h k m × (is_effective (creds_after j h k m) Cap.MacAdmin (version_of j n) ≡ true)
 IsAt j h k (answered l m) = (l.version ≤ length j) × IsTrueAnswer j h k m l.version l.what
 
 abbrev pub AllAt : List Batch → List Entry → ℕ → List Deed → Type 0
@@ -108,9 +108,9 @@ FitsTo s k q (d ∷ ds) [] rest = ⊥
 FitsTo s k q (d ∷ ds) (l ∷ ls) rest = Fits s k q d l × FitsTo s k (q + 1) ds ls rest
 
 abbrev pub IsNoWait : AskedWhat → Type 0
-IsNoWait (Ask verdict) = Unit {0}
-IsNoWait (Refused file fault) = Unit {0}
-IsNoWait (Wait pid) = ⊥
+IsNoWait (AskedWhat.Ask verdict) = Unit {0}
+IsNoWait (AskedWhat.Refused file fault) = Unit {0}
+IsNoWait (AskedWhat.Wait pid) = ⊥
 
 -- a call that makes no task and waits for none; where nothing stopped, it is no fork
 abbrev pub IsPlain : Bool → Deed → Type 0
@@ -125,9 +125,9 @@ by_version a (batched n x m) b = (a ≤ n) × (n + 1 ≤ b)
 by_version a (answered l m) b = (a ≤ l.version) × (l.version ≤ b)
 
 abbrev pub IsSeen : AskedWhat → ℕ → ℕ → ℕ → Type 0
-IsSeen (Ask verdict) a m b = Unit {0}
-IsSeen (Refused file fault) a m b = (a ≤ m) × (m ≤ b)
-IsSeen (Wait pid) a m b = Unit {0}
+IsSeen (AskedWhat.Ask verdict) a m b = Unit {0}
+IsSeen (AskedWhat.Refused file fault) a m b = (a ≤ m) × (m ≤ b)
+IsSeen (AskedWhat.Wait pid) a m b = Unit {0}
 
 -- the place in the history that a call needs, and that which it reaches
 abbrev pub by_place : ℕ → Deed → ℕ → Type 0

@@ -3,10 +3,10 @@ use Rattle.std.specs.List.{list_any}
 use Rattle.smack_base.specs.declared.ids.Pid.{Pid}
 use Rattle.text_spec.specs.Names.{id_of}
 use Rattle.script_spec.specs.declared.Verb.{Verb}
-use Rattle.script_spec.specs.declared.Verb.TheVariants.{Write, Ask, Wait, Task, Tree}
+use Rattle.script_spec.specs.declared.Verb.TheVariants as Verb
 use Rattle.script_spec.specs.Lines.{ScriptLine, word_in, verb_in}
 use Rattle.script_spec.specs.Tasks.{TaskChange, Forks, Exits, Awaits, Keeps, change_of}
-use Rattle.record_spec.specs.declared.AskedWhat.TheVariants.{Wait as WaitOf}
+use Rattle.record_spec.specs.declared.AskedWhat.TheVariants as AskedWhat
 use Rattle.replay_spec.specs.Calls.{pid_in, task_call, tree_call}
 use Rattle.replay_spec.specs.Replays.{modes_in}
 use Rattle.legal_spec.specs.Lines.{IsAskedOfLine}
@@ -16,12 +16,12 @@ use Rattle.task_runs.specs.Scripts.{Scripted, lines_by}
 -- names. Of a write its words do not matter: it is refused where they are wrong.
 abbrev pub knows_words : List (List ℕ) → List (List ℕ) → ScriptLine → Option Verb → Bool
 knows_words labels names l None = false
-knows_words labels names l (Some Write) = true
-knows_words labels names l (Some Ask) =
+knows_words labels names l (Some Verb.Write) = true
+knows_words labels names l (Some Verb.Ask) =
     is_some (id_of labels (word_in 1 l)) && (is_some (id_of labels (word_in 2 l)) && is_some (modes_in (word_in 3 l)))
-knows_words labels names l (Some Wait) = is_some (pid_in names (word_in 1 l))
-knows_words labels names l (Some (Task verb)) = is_some (task_call labels names l verb)
-knows_words labels names l (Some (Tree verb)) = is_some (tree_call l verb)
+knows_words labels names l (Some Verb.Wait) = is_some (pid_in names (word_in 1 l))
+knows_words labels names l (Some (Verb.Task verb)) = is_some (task_call labels names l verb)
+knows_words labels names l (Some (Verb.Tree verb)) = is_some (tree_call l verb)
 
 -- a line has a verb, and such words
 abbrev pub is_known : List (List ℕ) → List (List ℕ) → ScriptLine → Bool
@@ -68,4 +68,4 @@ IsDisorderly s ls = AreAllOrderly s → IsOrderly s ls → ⊥
 abbrev pub NoneWaits : List (List ℕ) → Pid → List ScriptLine → Type 0
 NoneWaits names child [] = Unit {0}
 NoneWaits names child (l ∷ ls) =
-    ((labels : List (List ℕ)) → IsAskedOfLine labels names l (WaitOf child) → ⊥) × NoneWaits names child ls
+    ((labels : List (List ℕ)) → IsAskedOfLine labels names l (AskedWhat.Wait child) → ⊥) × NoneWaits names child ls

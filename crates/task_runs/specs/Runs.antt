@@ -1,12 +1,12 @@
 use Rattle.std.specs.Prelude.{◌≡◌, ℕ, ◌+◌, ◌≤◌, List, [], ◌∷◌, ◌++◌, length, Bool, true, false, not, Option, Some, None}
 use Rattle.rules_spec.specs.declared.Batch.{Batch}
-use Rattle.world_spec.specs.declared.Call.TheVariants.{Task}
-use Rattle.world_spec.specs.declared.TaskCall.TheVariants.{Fork}
-use Rattle.world_spec.specs.declared.Reply.TheVariants.{Child}
+use Rattle.world_spec.specs.declared.Call.TheVariants as Call
+use Rattle.world_spec.specs.declared.TaskCall.TheVariants as TaskCall
+use Rattle.world_spec.specs.declared.Reply.TheVariants as Reply
 use Rattle.world_spec.specs.declared.Entry.{Entry}
 use Rattle.script_spec.specs.Lines.{ScriptLine}
 use Rattle.record_spec.specs.declared.AskedLine.{AskedLine}
-use Rattle.record_spec.specs.declared.AskedWhat.TheVariants.{Wait}
+use Rattle.record_spec.specs.declared.AskedWhat.TheVariants as AskedWhat
 use Rattle.live_table.specs.Lists.{Begins, Has}
 use Rattle.live_table.specs.Batches.{batches_by}
 use Rattle.smack_kernel.specs.Tasks.{TaskValue}
@@ -68,7 +68,7 @@ Over step a (forks e n pid k mine theirs wait after) z =
 
 abbrev pub IsWaitOf : ℕ → Option AskedLine → Type 0
 IsWaitOf pid None = Unit {0}
-IsWaitOf pid (Some l) = l.what ≡ Wait (record { 0 = pid })
+IsWaitOf pid (Some l) = l.what ≡ AskedWhat.Wait (record { 0 = pid })
 
 -- a child's calls are those of the lines of its script task, of all of them where nothing stopped
 pub record IsChild (full : Bool) (s : Scripted) (pid k : ℕ) (ds : List Deed) : Type 0 where
@@ -82,7 +82,7 @@ abbrev pub Kids : Bool → Scripted → Run → Type 0
 Kids full s ends = Unit {0}
 Kids full s (does d r) = IsPlain full d × Kids full s r
 Kids full s (forks e n pid k mine theirs wait after) =
-    (e.call ≡ Task (Fork (record { 0 = pid }))) × (e.reply ≡ Child k) × IsWaitOf pid wait × IsChild full s pid k (own theirs)
+    (e.call ≡ Call.Task (TaskCall.Fork (record { 0 = pid }))) × (e.reply ≡ Reply.Child k) × IsWaitOf pid wait × IsChild full s pid k (own theirs)
     × Kids full s mine × Kids full s theirs × Kids full s after
 
 abbrev pub Distinct : List ℕ → Type 0

@@ -1,9 +1,9 @@
 use Rattle.std.specs.Prelude.{◌≡◌, ℕ, ◌+◌, List, [], take, drop}
-use Rattle.world_spec.specs.declared.Call.TheVariants.{Task}
-use Rattle.world_spec.specs.declared.TaskCall.TheVariants.{Fork}
+use Rattle.world_spec.specs.declared.Call.TheVariants as Call
+use Rattle.world_spec.specs.declared.TaskCall.TheVariants as TaskCall
 use Rattle.script_spec.specs.Lines.{ScriptLine, table_of}
 use Rattle.script_spec.specs.Tasks.{task_names}
-use Rattle.record_spec.specs.declared.AskedWhat.TheVariants.{Wait}
+use Rattle.record_spec.specs.declared.AskedWhat.TheVariants as AskedWhat
 use Rattle.legal_spec.specs.Calls.{Stands}
 use Rattle.legal_spec.specs.Lines.{IsCallOfLine, IsAskedOfLine}
 use Rattle.live_table.specs.Lists.{those_of}
@@ -28,11 +28,11 @@ segment pid from to lines = lines_by pid (drop from (take to lines))
 
 -- a line forks the script task of a pid
 abbrev pub ForksTask : Scripted → ScriptLine → ℕ → Type 0
-ForksTask s l pid = IsCallOfLine s.labels s.names l (Task (Fork (record { 0 = pid })))
+ForksTask s l pid = IsCallOfLine s.labels s.names l (Call.Task (TaskCall.Fork (record { 0 = pid })))
 
 -- a line waits for it
 abbrev pub WaitsFor : Scripted → ScriptLine → ℕ → Type 0
-WaitsFor s l pid = IsAskedOfLine s.labels s.names l (Wait (record { 0 = pid }))
+WaitsFor s l pid = IsAskedOfLine s.labels s.names l (AskedWhat.Wait (record { 0 = pid }))
 
 -- no line of a task stands before the line that forks it
 abbrev pub ForksFirst : Scripted → Type 0

@@ -1,7 +1,7 @@
 use Rattle.std.specs.Prelude.{◌⊎◌, ◌≡◌, ℕ, ◌+◌, ◌<◌, ◌≤◌, List, ◌∷◌, length, None}
 use Rattle.smack_base.specs.declared.ids.Pid.{Pid}
-use Rattle.world_spec.specs.declared.Call.TheVariants.{Task}
-use Rattle.world_spec.specs.declared.TaskCall.TheVariants.{Fork}
+use Rattle.world_spec.specs.declared.Call.TheVariants as Call
+use Rattle.world_spec.specs.declared.TaskCall.TheVariants as TaskCall
 use Rattle.world_spec.specs.declared.Entry.{Entry}
 use Rattle.script_spec.specs.Lines.{ScriptLine}
 use Rattle.legal_spec.specs.Calls.{IsForkOf}
@@ -47,5 +47,5 @@ pub record HasForkedNone (w : TaskValue) : Type 0 where
   pub there : Has fork w.history
   pub own : Has fork.task (w.number ∷ w.ended)
   pub pid : Pid
-  pub is : fork.call ≡ Task (Fork pid)
+  pub is : fork.call ≡ Call.Task (TaskCall.Fork pid)
   pub none : child_of fork.reply ≡ None

@@ -4,11 +4,11 @@ use Rattle.std.specs.List.{position_or_len}
 use Rattle.smack_base.specs.Labels.{label_fault}
 use Rattle.smack_base.specs.Modes.{bad_letter, is_either_case, letter_r, letter_w, letter_x, letter_a, letter_t, dash}
 use Rattle.smack_base.specs.declared.label.LabelFault.{LabelFault}
-use Rattle.smack_base.specs.declared.label.LabelFault.TheVariants.{TooLong}
+use Rattle.smack_base.specs.declared.label.LabelFault.TheVariants as LabelFault
 use Rattle.text_spec.specs.declared.RuleForm.{RuleForm}
-use Rattle.text_spec.specs.declared.RuleForm.TheVariants.{Long, Short, Change}
+use Rattle.text_spec.specs.declared.RuleForm.TheVariants as RuleForm
 use Rattle.text_spec.specs.declared.LineFault.{LineFault}
-use Rattle.text_spec.specs.declared.LineFault.TheVariants.{Fields, Width, Subject, Object, Allow, Deny, Label}
+use Rattle.text_spec.specs.declared.LineFault.TheVariants as LineFault
 use Rattle.text_spec.specs.declared.BadLine.{BadLine}
 use Rattle.text_spec.specs.Texts.{Placed, TextLine, lines_from, words_from, is_blank, is_space}
 
@@ -27,16 +27,16 @@ first_fault (None ∷ more) = first_fault more
 first_fault (Some f ∷ more) = Some f
 
 abbrev pub subject_fault : Placed → Option LineFault
-subject_fault p = option_map (λ f. Subject f) (label_fault p.bytes)
+subject_fault p = option_map (λ f. LineFault.Subject f) (label_fault p.bytes)
 
 abbrev pub object_fault : Placed → Option LineFault
-object_fault p = option_map (λ f. Object f) (label_fault p.bytes)
+object_fault p = option_map (λ f. LineFault.Object f) (label_fault p.bytes)
 
 abbrev pub allow_fault : Placed → Option LineFault
-allow_fault p = option_map (λ at. Allow at) (bad_letter p.bytes)
+allow_fault p = option_map (λ at. LineFault.Allow at) (bad_letter p.bytes)
 
 abbrev pub deny_fault : Placed → Option LineFault
-deny_fault p = option_map (λ at. Deny at) (bad_letter p.bytes)
+deny_fault p = option_map (λ at. LineFault.Deny at) (bad_letter p.bytes)
 
 -- what a good line gives, unless the line of this number has a fault
 abbrev pub unless_fault : {A : Type 0} → ℕ → Option LineFault → A → Result A BadLine
@@ -44,7 +44,7 @@ unless_fault line None x = Ok x
 unless_fault line (Some f) x = Err (record { line = line; fault = f })
 
 abbrev pub fields_fault : {A : Type 0} → ℕ → List Placed → Result A BadLine
-fields_fault line words = Err (record { line = line; fault = Fields (length words) })
+fields_fault line words = Err (record { line = line; fault = LineFault.Fields (length words) })
 
 -- a line of subject, object and access
 abbrev pub long_line : ℕ → List Placed → Result RuleWords BadLine
@@ -79,7 +79,7 @@ field from len l = trimmed (record { at = l.at + from; bytes = take len (drop fr
 
 -- a label of a line of fixed width has at most 23 bytes
 abbrev pub short_label_fault : List ℕ → Option LabelFault
-short_label_fault text = if nat_lt 23 (length text) then Some TooLong else label_fault text
+short_label_fault text = if nat_lt 23 (length text) then Some LabelFault.TooLong else label_fault text
 
 -- the letters of a line of fixed width: r w x a t, and the dash
 abbrev pub is_short_letter : ℕ → Bool
@@ -94,15 +94,15 @@ abbrev pub short_fields : ℕ → Placed → Placed → Placed → Result RuleWo
 short_fields line s o a =
     unless_fault line
     (first_fault
-    (option_map (λ f. Subject f) (short_label_fault s.bytes) ∷ option_map (λ f. Object f) (short_label_fault o.bytes)
-    ∷ option_map (λ at. Allow at) (short_bad_letter a.bytes) ∷ []))
+    (option_map (λ f. LineFault.Subject f) (short_label_fault s.bytes) ∷ option_map (λ f. LineFault.Object f) (short_label_fault o.bytes)
+    ∷ option_map (λ at. LineFault.Allow at) (short_bad_letter a.bytes) ∷ []))
     (record { line = line; subject = s; object = o; allow = a; deny = None })
 
 -- a line of 53 bytes: subject 24, object 24, access 5
 abbrev pub short_line : ℕ → TextLine → Result RuleWords BadLine
 short_line line l =
     if length l.bytes == 53 then short_fields line (field 0 24 l) (field 24 24 l) (field 48 5 l)
-    else Err (record { line = line; fault = Width (length l.bytes) })
+    else Err (record { line = line; fault = LineFault.Width (length l.bytes) })
 
 -- a line without a word is skipped
 abbrev pub unless_bare : {A : Type 0} → List Placed → Result A BadLine → Option (Result A BadLine)
@@ -114,9 +114,9 @@ blank_words l = words_from is_blank l.at l.bytes
 
 -- what a line of this form and number is: skipped, good, or bad
 abbrev pub line_answer : RuleForm → ℕ → TextLine → Option (Result RuleWords BadLine)
-line_answer Long line l = unless_bare (blank_words l) (long_line line (blank_words l))
-line_answer Change line l = unless_bare (blank_words l) (change_line line (blank_words l))
-line_answer Short line l = if length l.bytes == 0 then None else Some (short_line line l)
+line_answer RuleForm.Long line l = unless_bare (blank_words l) (long_line line (blank_words l))
+line_answer RuleForm.Change line l = unless_bare (blank_words l) (change_line line (blank_words l))
+line_answer RuleForm.Short line l = if length l.bytes == 0 then None else Some (short_line line l)
 
 -- nothing follows a bad line
 abbrev pub before_more : {A : Type 0} → Option (Result A BadLine) → List (Result A BadLine) → List (Result A BadLine)
@@ -175,7 +175,7 @@ abbrev pub all_words : List ℕ → List LineWord
 all_words text = line_words 1 (lines_from 0 text)
 
 abbrev pub listed_fault : Placed → Option LineFault
-listed_fault p = option_map (λ f. Label f) (label_fault p.bytes)
+listed_fault p = option_map (λ f. LineFault.Label f) (label_fault p.bytes)
 
 -- a label of a list, or its fault
 abbrev pub list_word : LineWord → Result Placed BadLine
@@ -196,6 +196,6 @@ label_answers words = words_answers words
 
 -- the only word of a text; else the fault is at line 1 where there is none, and at the line of the second word
 abbrev pub only_word : List LineWord → Result Placed BadLine
-only_word [] = Err (record { line = 1; fault = Fields 0 })
+only_word [] = Err (record { line = 1; fault = LineFault.Fields 0 })
 only_word (w ∷ []) = Ok w.word
-only_word (w ∷ v ∷ ws) = Err (record { line = v.line; fault = Fields (length (w ∷ v ∷ ws)) })
+only_word (w ∷ v ∷ ws) = Err (record { line = v.line; fault = LineFault.Fields (length (w ∷ v ∷ ws)) })

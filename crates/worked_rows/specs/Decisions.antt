@@ -1,11 +1,11 @@
 use Rattle.std.specs.Prelude.{◌≡◌, ℕ, Bool, true, false, List, [], ◌∷◌, map, codes}
 use Rattle.smack_base.specs.Modes.{no_modes}
-use Rattle.smack_base.specs.declared.cap.Cap.TheVariants.{MacAdmin, MacOverride, SysPtrace}
+use Rattle.smack_base.specs.declared.cap.Cap.TheVariants as Cap
 use Rattle.smack_base.specs.declared.ids.LabelId.{LabelId}
 use Rattle.smack_base.specs.declared.modes.Modes.{Modes}
 use Rattle.smack_base.specs.declared.rule_op.Pair.{Pair}
 use Rattle.smack_base.specs.declared.rule_op.RuleOp.{RuleOp}
-use Rattle.smack_base.specs.declared.rule_op.RuleOp.TheVariants.{Set, OnlyAdd, Ptrace}
+use Rattle.smack_base.specs.declared.rule_op.RuleOp.TheVariants as RuleOp
 use Rattle.rules_spec.specs.declared.Verdict.{Verdict}
 use Rattle.rules_spec.specs.Versions.{floor, hat, star}
 use Rattle.rules_spec.specs.Rulings.{Ruling, ruling}
@@ -42,7 +42,7 @@ Answers answer rows = map answer rows ≡ map verdict rows
 
 -- `A B rw`, `A C -`, `B _ w`, and then more writes
 abbrev pub rules_and : List RuleOp → Ruling
-rules_and more = ruling (version ((Set a b (m (codes "rw")) ∷ Set a c no_modes ∷ Set b floor (m (codes "w")) ∷ more) ∷ []))
+rules_and more = ruling (version ((RuleOp.Set a b (m (codes "rw")) ∷ RuleOp.Set a c no_modes ∷ RuleOp.Set b floor (m (codes "w")) ∷ more) ∷ []))
 
 abbrev pub rules : Ruling
 rules = rules_and []
@@ -90,11 +90,11 @@ asks creds q = full_verdict creds rules q.s q.o q.m
 -- the first task, and what it can use where the onlycap list has the label A; then with this label; then without
 -- CAP_MAC_ADMIN
 abbrev pub effective_with : Creds → List Bool
-effective_with creds = map (λ cap. is_effective creds cap (rules_and (OnlyAdd a ∷ []))) (MacAdmin ∷ MacOverride ∷ SysPtrace ∷ [])
+effective_with creds = map (λ cap. is_effective creds cap (rules_and (RuleOp.OnlyAdd a ∷ []))) (Cap.MacAdmin ∷ Cap.MacOverride ∷ Cap.SysPtrace ∷ [])
 
 -- attaching under this policy to a task with the label B, and to one with the label A
 abbrev pub attaches : ℕ → List Verdict
-attaches policy = map (λ o. attach_verdict task (rules_and (Ptrace policy ∷ [])) o) (b ∷ a ∷ [])
+attaches policy = map (λ o. attach_verdict task (rules_and (RuleOp.Ptrace policy ∷ [])) o) (b ∷ a ∷ [])
 
 abbrev pub attached : LabelId → Bool → ℕ → ℕ → Verdict
 attached o allowed case over = record { allowed = allowed; case = case; over = over; subject = a; object = o; modes = m (codes "rw") }
@@ -103,7 +103,7 @@ pub record WorkedDecisions : Type 0 where
   pub by_cases : Answers (λ q. verdict_of_cases rules q.s q.o q.m) case_rows
   pub by_task : Answers (asks task) (allow a b (codes "w") 6 ∷ over a c (codes "w") 7 ∷ [])
   pub by_self_rules : Answers (asks (with_rule task)) (over a b (codes "w") 8 ∷ [])
-  pub without_privilege : Answers (asks (with_rule (without_cap task MacOverride))) (deny a b (codes "w") 8 ∷ allow a b (codes "r") 6 ∷ deny a c (codes "w") 7 ∷ [])
-  pub capabilities : map effective_with (creds_first ∷ task ∷ without_cap task MacAdmin ∷ []) ≡ (false ∷ false ∷ true ∷ []) ∷ (true ∷ true ∷ true ∷ []) ∷ (false ∷ true ∷ true ∷ []) ∷ []
+  pub without_privilege : Answers (asks (with_rule (without_cap task Cap.MacOverride))) (deny a b (codes "w") 8 ∷ allow a b (codes "r") 6 ∷ deny a c (codes "w") 7 ∷ [])
+  pub capabilities : map effective_with (creds_first ∷ task ∷ without_cap task Cap.MacAdmin ∷ []) ≡ (false ∷ false ∷ true ∷ []) ∷ (true ∷ true ∷ true ∷ []) ∷ (false ∷ true ∷ true ∷ []) ∷ []
   pub attaching : map attaches (0 ∷ 1 ∷ 2 ∷ []) ≡ (attached b true 6 0 ∷ attached a true 5 0 ∷ []) ∷ (attached b true 9 10 ∷ attached a true 10 0 ∷ []) ∷ (attached b false 10 0 ∷ attached a true 10 0 ∷ []) ∷ []
   pub self_rules : with_self_rules [] (pair c b (codes "r") ∷ pair b c (codes "r") ∷ pair c b (codes "w") ∷ []) ≡ pair c b (codes "w") ∷ pair b c (codes "r") ∷ []

@@ -3,7 +3,7 @@ use Rattle.smack_base.specs.Modes.{modes_of, no_modes}
 use Rattle.smack_base.specs.declared.ids.LabelId.{LabelId}
 use Rattle.smack_base.specs.declared.modes.Modes.{Modes}
 use Rattle.smack_base.specs.declared.rule_op.RuleOp.{RuleOp}
-use Rattle.smack_base.specs.declared.rule_op.RuleOp.TheVariants.{Set, Change, Revoke, OnlyClear, OnlyAdd, Ambient, Ptrace, Logging}
+use Rattle.smack_base.specs.declared.rule_op.RuleOp.TheVariants as RuleOp
 use Rattle.rules_spec.specs.declared.Batch.{Batch}
 use Rattle.rules_spec.specs.Versions.{floor, rights, only, ambient, ptrace, logging}
 
@@ -30,9 +30,9 @@ version batches = map (λ ops. record { task = 0; seq = 1; ops = ops }) batches
 -- sets, changes, a revoke between, and a change behind it
 abbrev pub writes_of_rules : List RuleOp
 writes_of_rules =
-    Set a b (m (codes "r")) ∷ Set a c (m (codes "w")) ∷ Change a b (m (codes "w")) (m (codes "r"))
-    ∷ Change b b (m (codes "r")) (m (codes "r")) ∷ Change c a (m (codes "rw")) no_modes ∷ Set a b (m (codes "rw"))
-    ∷ Revoke a ∷ Change a c (m (codes "r")) (m (codes "w")) ∷ []
+    RuleOp.Set a b (m (codes "r")) ∷ RuleOp.Set a c (m (codes "w")) ∷ RuleOp.Change a b (m (codes "w")) (m (codes "r"))
+    ∷ RuleOp.Change b b (m (codes "r")) (m (codes "r")) ∷ RuleOp.Change c a (m (codes "rw")) no_modes ∷ RuleOp.Set a b (m (codes "rw"))
+    ∷ RuleOp.Revoke a ∷ RuleOp.Change a c (m (codes "r")) (m (codes "w")) ∷ []
 
 -- the rights of A on B and on C, of B on B, of C on A, and of B on C
 abbrev pub rights_in : List Batch → List (Option Modes)
@@ -40,8 +40,8 @@ rights_in v = rights v a b ∷ rights v a c ∷ rights v b b ∷ rights v c a �
 
 abbrev pub setting_batch : List RuleOp
 setting_batch =
-    Change a c (m (codes "rw")) (m (codes "r")) ∷ Set b b (m (codes "r")) ∷ Revoke b ∷ OnlyAdd b ∷ Ambient b ∷ Ptrace 2
-    ∷ Logging 3 ∷ []
+    RuleOp.Change a c (m (codes "rw")) (m (codes "r")) ∷ RuleOp.Set b b (m (codes "r")) ∷ RuleOp.Revoke b ∷ RuleOp.OnlyAdd b ∷ RuleOp.Ambient b ∷ RuleOp.Ptrace 2
+    ∷ RuleOp.Logging 3 ∷ []
 
 -- the ambient label, and the numbers of ptrace and logging
 pub record Settings : Type 0 where
@@ -56,7 +56,7 @@ settings_in v = record { label = ambient v; ptrace = ptrace v; logging = logging
 -- change or a set goes on from there.
 pub record WorkedVersions : Type 0 where
   pub rights_of_writes : rights_in (version (writes_of_rules ∷ [])) ≡ Some no_modes ∷ Some (m (codes "r")) ∷ Some no_modes ∷ Some (m (codes "rw")) ∷ None ∷ []
-  pub rights_before : rights_in (version ((Set a b (m (codes "r")) ∷ []) ∷ (Set a c (m (codes "w")) ∷ []) ∷ (Change a b (m (codes "w")) (m (codes "r")) ∷ []) ∷ [])) ≡ Some (m (codes "w")) ∷ Some (m (codes "w")) ∷ None ∷ None ∷ None ∷ []
-  pub onlycap : map (λ ops. only (version (ops ∷ []))) ((OnlyAdd a ∷ OnlyAdd a ∷ []) ∷ (OnlyAdd a ∷ OnlyClear ∷ OnlyAdd c ∷ []) ∷ (OnlyAdd a ∷ OnlyClear ∷ []) ∷ []) ≡ (a ∷ a ∷ []) ∷ (c ∷ []) ∷ [] ∷ []
+  pub rights_before : rights_in (version ((RuleOp.Set a b (m (codes "r")) ∷ []) ∷ (RuleOp.Set a c (m (codes "w")) ∷ []) ∷ (RuleOp.Change a b (m (codes "w")) (m (codes "r")) ∷ []) ∷ [])) ≡ Some (m (codes "w")) ∷ Some (m (codes "w")) ∷ None ∷ None ∷ None ∷ []
+  pub onlycap : map (λ ops. only (version (ops ∷ []))) ((RuleOp.OnlyAdd a ∷ RuleOp.OnlyAdd a ∷ []) ∷ (RuleOp.OnlyAdd a ∷ RuleOp.OnlyClear ∷ RuleOp.OnlyAdd c ∷ []) ∷ (RuleOp.OnlyAdd a ∷ RuleOp.OnlyClear ∷ []) ∷ []) ≡ (a ∷ a ∷ []) ∷ (c ∷ []) ∷ [] ∷ []
   pub settings : settings_in (version (setting_batch ∷ [])) ≡ record { label = b; ptrace = 2; logging = 3 }
   pub first : settings_in [] ≡ record { label = floor; ptrace = 0; logging = 1 }

@@ -4,10 +4,9 @@ use Rattle.smack_base.specs.Modes.{bad_letter, modes_of, letters_of}
 use Rattle.smack_base.specs.Paths.{path_of}
 use Rattle.smack_base.specs.declared.ids.LabelId.{LabelId}
 use Rattle.smack_base.specs.declared.path.PathFault.{PathFault}
-use Rattle.smack_base.specs.declared.path.PathFault.TheVariants.{NotAbsolute, EmptyName, DotName, NameTooLong, TooDeep}
-use Rattle.smack_base.specs.declared.path.PathFault.TheVariants.{BadByte as BadPathByte}
+use Rattle.smack_base.specs.declared.path.PathFault.TheVariants as PathFault
 use Rattle.smack_base.specs.declared.label.LabelFault.{LabelFault}
-use Rattle.smack_base.specs.declared.label.LabelFault.TheVariants.{Empty, TooLong, LeadingDash, BadByte}
+use Rattle.smack_base.specs.declared.label.LabelFault.TheVariants as LabelFault
 use Rattle.text_spec.specs.Names.{predefined, with_names, id_of}
 
 abbrev pub each_fault : List (List ℕ) → List (Option LabelFault)
@@ -23,10 +22,10 @@ no_label_bytes =
 pub record WorkedWords : Type 0 where
   pub labels : each_fault (codes "_" ∷ codes "^" ∷ codes "*" ∷ codes "?" ∷ codes "@" ∷ codes "!~" ∷ codes "a-" ∷ []) ≡ None ∷ None ∷ None ∷ None ∷ None ∷ None ∷ None ∷ []
   pub longest : label_fault (replicate 255 65) ≡ None
-  pub too_long : label_fault (replicate 256 65) ≡ Some TooLong
-  pub empty : label_fault [] ≡ Some Empty
-  pub dash : label_fault (codes "-a/") ≡ Some LeadingDash
-  pub other_bytes : each_fault no_label_bytes ≡ map (λ text. Some (BadByte 2)) no_label_bytes
+  pub too_long : label_fault (replicate 256 65) ≡ Some LabelFault.TooLong
+  pub empty : label_fault [] ≡ Some LabelFault.Empty
+  pub dash : label_fault (codes "-a/") ≡ Some LabelFault.LeadingDash
+  pub other_bytes : each_fault no_label_bytes ≡ map (λ text. Some (LabelFault.BadByte 2)) no_label_bytes
   pub bad_letters : map bad_letter (codes "z" ∷ codes "rwl" ∷ codes "r w" ∷ []) ≡ Some 0 ∷ Some 2 ∷ Some 1 ∷ []
   pub letters : map bad_letter (codes "rRrRr" ∷ codes "btaxwr" ∷ codes "-" ∷ [] ∷ codes "X-a" ∷ []) ≡ None ∷ None ∷ None ∷ None ∷ None ∷ []
   pub printed : map (λ text. letters_of (modes_of text)) (codes "rRrRr" ∷ codes "btaxwr" ∷ codes "-" ∷ [] ∷ codes "X-a" ∷ []) ≡ codes "r" ∷ codes "rwxatb" ∷ codes "-" ∷ codes "-" ∷ codes "xa" ∷ []
@@ -50,23 +49,23 @@ path_rows =
     ∷ path (codes "/usr/!~") (codes "usr" ∷ codes "!~" ∷ [])
     ∷ path (codes "/" ++ replicate 64 97) (replicate 64 97 ∷ [])
     ∷ path (codes "/a/a/a/a/a/a/a/a/a/a/a/a/a/a/a/a/a/a/a/a/a/a/a/a/a/a/a/a/a/a/a/a") (replicate 32 (codes "a"))
-    ∷ no_path [] NotAbsolute
-    ∷ no_path (codes "a") NotAbsolute
-    ∷ no_path (codes "a//") NotAbsolute
-    ∷ no_path (codes "//") (EmptyName 1)
-    ∷ no_path (codes "/a/") (EmptyName 3)
-    ∷ no_path (codes "/.") (DotName 1)
-    ∷ no_path (codes "/b/..") (DotName 3)
-    ∷ no_path (codes "/a ") (BadPathByte 2)
-    ∷ no_path (codes "/ab/" ++ 127 ∷ []) (BadPathByte 4)
-    ∷ no_path (codes "/" ++ 255 ∷ []) (BadPathByte 1)
-    ∷ no_path (codes "/a" ++ 0 ∷ codes "b") (BadPathByte 2)
-    ∷ no_path (codes "/a b/../") (BadPathByte 2)
-    ∷ no_path (codes "/../a b") (DotName 1)
-    ∷ no_path (codes "/" ++ replicate 65 97) (NameTooLong 1)
-    ∷ no_path (codes "/a/a " ++ replicate 63 97) (NameTooLong 3)
-    ∷ no_path (codes "/a/a/a/a/a/a/a/a/a/a/a/a/a/a/a/a/a/a/a/a/a/a/a/a/a/a/a/a/a/a/a/a/a") TooDeep
-    ∷ no_path (codes "/a/a/a/a/a/a/a/a/a/a/a/a/a/a/a/a/a/a/a/a/a/a/a/a/a/a/a/a/a/a/a/a/a/") (EmptyName 67)
+    ∷ no_path [] PathFault.NotAbsolute
+    ∷ no_path (codes "a") PathFault.NotAbsolute
+    ∷ no_path (codes "a//") PathFault.NotAbsolute
+    ∷ no_path (codes "//") (PathFault.EmptyName 1)
+    ∷ no_path (codes "/a/") (PathFault.EmptyName 3)
+    ∷ no_path (codes "/.") (PathFault.DotName 1)
+    ∷ no_path (codes "/b/..") (PathFault.DotName 3)
+    ∷ no_path (codes "/a ") (PathFault.BadByte 2)
+    ∷ no_path (codes "/ab/" ++ 127 ∷ []) (PathFault.BadByte 4)
+    ∷ no_path (codes "/" ++ 255 ∷ []) (PathFault.BadByte 1)
+    ∷ no_path (codes "/a" ++ 0 ∷ codes "b") (PathFault.BadByte 2)
+    ∷ no_path (codes "/a b/../") (PathFault.BadByte 2)
+    ∷ no_path (codes "/../a b") (PathFault.DotName 1)
+    ∷ no_path (codes "/" ++ replicate 65 97) (PathFault.NameTooLong 1)
+    ∷ no_path (codes "/a/a " ++ replicate 63 97) (PathFault.NameTooLong 3)
+    ∷ no_path (codes "/a/a/a/a/a/a/a/a/a/a/a/a/a/a/a/a/a/a/a/a/a/a/a/a/a/a/a/a/a/a/a/a/a") PathFault.TooDeep
+    ∷ no_path (codes "/a/a/a/a/a/a/a/a/a/a/a/a/a/a/a/a/a/a/a/a/a/a/a/a/a/a/a/a/a/a/a/a/a/") (PathFault.EmptyName 67)
     ∷ []
 
 -- Paths at their edges.

@@ -5,11 +5,11 @@ use Rattle.rules_spec.specs.declared.Verdict.{Verdict}
 use Rattle.rules_spec.specs.Rulings.{Ruling}
 use Rattle.rules_spec.specs.Creds.{Creds}
 use Rattle.world_spec.specs.declared.Call.{Call}
-use Rattle.world_spec.specs.declared.Call.TheVariants.{Task, Tree}
+use Rattle.world_spec.specs.declared.Call.TheVariants as Call
 use Rattle.world_spec.specs.declared.TaskCall.{TaskCall}
-use Rattle.world_spec.specs.declared.TaskCall.TheVariants.{Fork, Exit, Relabel, DropCap, SelfRules, Relabels, Kill, Take, TraceRead, TraceAttach}
+use Rattle.world_spec.specs.declared.TaskCall.TheVariants as TaskCall
 use Rattle.world_spec.specs.declared.TreeCall.{TreeCall}
-use Rattle.world_spec.specs.declared.TreeCall.TheVariants.{Create, Unlink, ListDir}
+use Rattle.world_spec.specs.declared.TreeCall.TheVariants as TreeCall
 use Rattle.world_spec.specs.declared.Reply.{Reply}
 use Rattle.world_spec.specs.Worlds.{World, TaskRow, live_task, creds_in, creds_or_first, creds_of, with_creds, with_pending, without_life, with_child}
 use Rattle.world_spec.specs.Steps.{Effect, signalled, effect, stepped, went, verdict_of}
@@ -50,28 +50,28 @@ signal_keeps rows None sig k = refl
 signal_keeps rows (Some n) sig k = pending_keeps rows n k _
 
 task_keeps : (w : World) (version : Ruling) (task k : ℕ) (call : TaskCall) → (task ≡ k → ⊥)
-    → makes k (effect w version task (Task call)).reply ≡ false
-    → creds_in (effect w version task (Task call)).world.tasks k ≡ creds_in w.tasks k
-task_keeps w version task k (Fork pid) apart unmade = child_keeps w.tasks pid _ k (eqb-false (length w.tasks) k unmade)
-task_keeps w version task k Exit apart unmade = exit_keeps w.tasks task k
-task_keeps w version task k (Relabel l) apart unmade = other_creds w.tasks task k _ apart
-task_keeps w version task k (DropCap cap) apart unmade = other_creds w.tasks task k _ apart
-task_keeps w version task k (SelfRules rules) apart unmade = other_creds w.tasks task k _ apart
-task_keeps w version task k (Relabels labels) apart unmade = other_creds w.tasks task k _ apart
-task_keeps w version task k (Kill pid sig) apart unmade = signal_keeps w.tasks (live_task w.tasks pid) sig k
-task_keeps w version task k Take apart unmade = pending_keeps w.tasks task k _
-task_keeps w version task k (TraceRead pid) apart unmade = refl
-task_keeps w version task k (TraceAttach pid) apart unmade = refl
+    → makes k (effect w version task (Call.Task call)).reply ≡ false
+    → creds_in (effect w version task (Call.Task call)).world.tasks k ≡ creds_in w.tasks k
+task_keeps w version task k (TaskCall.Fork pid) apart unmade = child_keeps w.tasks pid _ k (eqb-false (length w.tasks) k unmade)
+task_keeps w version task k TaskCall.Exit apart unmade = exit_keeps w.tasks task k
+task_keeps w version task k (TaskCall.Relabel l) apart unmade = other_creds w.tasks task k _ apart
+task_keeps w version task k (TaskCall.DropCap cap) apart unmade = other_creds w.tasks task k _ apart
+task_keeps w version task k (TaskCall.SelfRules rules) apart unmade = other_creds w.tasks task k _ apart
+task_keeps w version task k (TaskCall.Relabels labels) apart unmade = other_creds w.tasks task k _ apart
+task_keeps w version task k (TaskCall.Kill pid sig) apart unmade = signal_keeps w.tasks (live_task w.tasks pid) sig k
+task_keeps w version task k TaskCall.Take apart unmade = pending_keeps w.tasks task k _
+task_keeps w version task k (TaskCall.TraceRead pid) apart unmade = refl
+task_keeps w version task k (TaskCall.TraceAttach pid) apart unmade = refl
 
-tree_keeps : (w : World) (version : Ruling) (task : ℕ) (call : TreeCall) → (effect w version task (Tree call)).world.tasks ≡ w.tasks
-tree_keeps w version task (Create path) = refl
-tree_keeps w version task (Unlink path) = refl
-tree_keeps w version task (ListDir path at) = refl
+tree_keeps : (w : World) (version : Ruling) (task : ℕ) (call : TreeCall) → (effect w version task (Call.Tree call)).world.tasks ≡ w.tasks
+tree_keeps w version task (TreeCall.Create path) = refl
+tree_keeps w version task (TreeCall.Unlink path) = refl
+tree_keeps w version task (TreeCall.ListDir path at) = refl
 
 effect_keeps : (w : World) (version : Ruling) (task k : ℕ) (call : Call) → (task ≡ k → ⊥)
     → makes k (effect w version task call).reply ≡ false → creds_of (effect w version task call).world k ≡ creds_of w k
-effect_keeps w version task k (Task call) apart unmade = ap creds_or_first (task_keeps w version task k call apart unmade)
-effect_keeps w version task k (Tree call) apart unmade = ap (λ tasks. creds_or_first (creds_in tasks k)) (tree_keeps w version task call)
+effect_keeps w version task k (Call.Task call) apart unmade = ap creds_or_first (task_keeps w version task k call apart unmade)
+effect_keeps w version task k (Call.Tree call) apart unmade = ap (λ tasks. creds_or_first (creds_in tasks k)) (tree_keeps w version task call)
 
 stepped_keeps : (w : World) (k : ℕ) (e : Effect) (checks : List Verdict) (stop : Option Reply)
     → (makes k e.reply ≡ false → creds_of e.world k ≡ creds_of w k)

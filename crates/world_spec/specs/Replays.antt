@@ -5,7 +5,7 @@ use Rattle.rules_spec.specs.Rulings.{Ruling, ruling}
 use Rattle.rules_spec.specs.Creds.{Creds}
 use Rattle.world_spec.specs.declared.Entry.{Entry}
 use Rattle.world_spec.specs.declared.Reply.{Reply}
-use Rattle.world_spec.specs.declared.Reply.TheVariants.{Ok as Done, Child, Signal, Names, Denied, Refused}
+use Rattle.world_spec.specs.declared.Reply.TheVariants as Reply
 use Rattle.world_spec.specs.Worlds.{World, world_first, creds_of}
 use Rattle.world_spec.specs.Steps.{Stepped, step}
 
@@ -40,12 +40,12 @@ pub record StandsOver (journal : List Batch) (history : List Entry) (w : World) 
 
 -- the reply tells that the call made this task
 abbrev pub makes : ℕ → Reply → Bool
-makes k Done = false
-makes k (Child n) = n == k
-makes k (Signal sig) = false
-makes k (Names count names) = false
-makes k (Denied case) = false
-makes k (Refused why) = false
+makes k Reply.Ok = false
+makes k (Reply.Child n) = n == k
+makes k (Reply.Signal sig) = false
+makes k (Reply.Names count names) = false
+makes k (Reply.Denied case) = false
+makes k (Reply.Refused why) = false
 
 -- an entry by which task k stands at its q-th call: one of its earlier calls, or the fork that made it
 abbrev pub comes_before_call : ℕ → ℕ → Entry → Bool

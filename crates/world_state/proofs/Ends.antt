@@ -4,30 +4,30 @@ use Rattle.rules_spec.specs.declared.Verdict.{Verdict}
 use Rattle.world_spec.specs.declared.Why.{Why}
 use Rattle.world_spec.specs.declared.Question.{Question}
 use Rattle.world_spec.specs.declared.Part.{Part}
-use Rattle.world_spec.specs.declared.Part.TheVariants.{Refuses, Asks}
-use Rattle.world_spec.specs.declared.Reply.TheVariants.{Denied, Refused}
+use Rattle.world_spec.specs.declared.Part.TheVariants as Part
+use Rattle.world_spec.specs.declared.Reply.TheVariants as Reply
 use Rattle.world_spec.specs.Steps.{Went, asked, went}
 use Rattle.world_state.specs.Judging.{behind, ended_by, Passes}
 
 -- a refusal ends the call where it holds
 pub refused_ends : (verdict : Question → Verdict) (checks : List Verdict) (holds : Bool) (why : Why) (more : List Part)
-    → behind checks (went verdict (Refuses holds why ∷ more)) ≡ ended_by checks (if holds then Some (Refused why) else None) (went verdict more)
-refused_ends verdict checks true why more = λ i. record { checks = append-nil checks i; stop = Some (Refused why) }
+    → behind checks (went verdict (Part.Refuses holds why ∷ more)) ≡ ended_by checks (if holds then Some (Reply.Refused why) else None) (went verdict more)
+refused_ends verdict checks true why more = λ i. record { checks = append-nil checks i; stop = Some (Reply.Refused why) }
 refused_ends verdict checks false why more = refl
 
 -- a denied question ends the call
 pub asked_ends : (checks : List Verdict) (v : Verdict) (w : Went)
-    → behind checks (asked v w) ≡ ended_by (checks ++ v ∷ []) (if v.allowed then None else Some (Denied v.case)) w
+    → behind checks (asked v w) ≡ ended_by (checks ++ v ∷ []) (if v.allowed then None else Some (Reply.Denied v.case)) w
 asked_ends checks v w = by v.allowed
   where
     by : (allowed : Bool)
-        → behind checks (if allowed then record { checks = v ∷ w.checks; stop = w.stop } else record { checks = v ∷ []; stop = Some (Denied v.case) })
-        ≡ ended_by (checks ++ v ∷ []) (if allowed then None else Some (Denied v.case)) w
+        → behind checks (if allowed then record { checks = v ∷ w.checks; stop = w.stop } else record { checks = v ∷ []; stop = Some (Reply.Denied v.case) })
+        ≡ ended_by (checks ++ v ∷ []) (if allowed then None else Some (Reply.Denied v.case)) w
     by true = λ i. record { checks = sym (append_assoc checks (v ∷ []) w.checks) i; stop = w.stop }
     by false = refl
 
 abbrev went_by : Bool → Verdict → Went → Went
-went_by allowed v w = if allowed then record { checks = v ∷ w.checks; stop = w.stop } else record { checks = v ∷ []; stop = Some (Denied v.case) }
+went_by allowed v w = if allowed then record { checks = v ∷ w.checks; stop = w.stop } else record { checks = v ∷ []; stop = Some (Reply.Denied v.case) }
 
 went_on : (allowed : Bool) (v : Verdict) (w : Went) → (went_by allowed v w).stop ≡ None → w.stop ≡ None
 went_on true v w none = none
@@ -36,9 +36,9 @@ went_on false v w none = cc
 -- where nothing ends the call, no refusal applies
 pub passes : (verdict : Question → Verdict) (parts : List Part) → (went verdict parts).stop ≡ None → Passes parts
 passes verdict [] none = tt
-passes verdict (Refuses true why ∷ more) none = cc
-passes verdict (Refuses false why ∷ more) none = (refl, passes verdict more none)
-passes verdict (Asks question ∷ more) none = passes verdict more (went_on (verdict question).allowed (verdict question) (went verdict more) none)
+passes verdict (Part.Refuses true why ∷ more) none = cc
+passes verdict (Part.Refuses false why ∷ more) none = (refl, passes verdict more none)
+passes verdict (Part.Asks question ∷ more) none = passes verdict more (went_on (verdict question).allowed (verdict question) (went verdict more) none)
 
 -- behind the last part nothing is left to go through
 pub at_end : (verdict : Question → Verdict) (checks : List Verdict) (i : ℕ) (parts : List Part) (w : Went) → length parts ≤ i

@@ -1,7 +1,7 @@
 use Rattle.std.specs.Prelude.{◌≡◌, false, List, [], ◌∷◌, ◌++◌, Option, Some, None}
 use Rattle.rules_spec.specs.declared.Verdict.{Verdict}
 use Rattle.world_spec.specs.declared.Part.{Part}
-use Rattle.world_spec.specs.declared.Part.TheVariants.{Refuses, Asks}
+use Rattle.world_spec.specs.declared.Part.TheVariants as Part
 use Rattle.world_spec.specs.declared.Reply.{Reply}
 use Rattle.world_spec.specs.Steps.{Went}
 use Rattle.world_state.specs.declared.judging.Judgement.{Judgement}
@@ -22,5 +22,5 @@ ended_by checks (Some reply) w = record { checks = checks; stop = Some reply }
 -- no refusal of these parts applies
 abbrev pub Passes : List Part → Type 0
 Passes [] = Unit {0}
-Passes (Refuses holds why ∷ more) = (holds ≡ false) × Passes more
-Passes (Asks question ∷ more) = Passes more
+Passes (Part.Refuses holds why ∷ more) = (holds ≡ false) × Passes more
+Passes (Part.Asks question ∷ more) = Passes more

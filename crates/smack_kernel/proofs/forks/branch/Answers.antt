@@ -2,8 +2,8 @@ use Rattle.std.proofs.Common.{arith, ap, sym, subst, ◌∙◌, ◌≡◌, ◌+�
 use Rattle.std.specs.Prelude.{Result, Ok, Err}
 use Rattle.rules_spec.specs.Rulings.{ruling}
 use Rattle.world_spec.specs.declared.Call.{Call}
-use Rattle.world_spec.specs.declared.Call.TheVariants.{Task}
-use Rattle.world_spec.specs.declared.TaskCall.TheVariants.{Fork}
+use Rattle.world_spec.specs.declared.Call.TheVariants as Call
+use Rattle.world_spec.specs.declared.TaskCall.TheVariants as TaskCall
 use Rattle.world_spec.specs.declared.Entry.{Entry}
 use Rattle.world_spec.specs.Worlds.{creds_of}
 use Rattle.live_table.specs.declared.view.View.{View}
@@ -15,7 +15,7 @@ use Rattle.smack_kernel.specs.Histories.{world_means}
 use Rattle.smack_kernel.specs.Growth.{entry_of}
 use Rattle.smack_kernel.specs.declared.index.Index.{Index}
 use Rattle.smack_kernel.specs.declared.turns.Turned.{Turned}
-use Rattle.smack_kernel.specs.declared.turns.Turned.TheVariants as turned
+use Rattle.smack_kernel.specs.declared.turns.Turned.TheVariants as Turned
 use Rattle.smack_kernel.specs.Tasks.{IsTask, Starts, task_of}
 use Rattle.smack_kernel.specs.Turns.{IsMade, IsTurned}
 use Rattle.smack_kernel.specs.Forks.{task_made, MayFork, Forks}
@@ -51,7 +51,7 @@ give_turn-requires-then-not-makes_task-clause-may g c =
     let x = c.take_turn-machine.result in
     let m' = c.fork_in_turn-forked.new.machine in
     let seq = c.args.made + 1 in
-    let call = Task (Fork c.args.pid) in
+    let call = Call.Task (TaskCall.Fork c.args.pid) in
     let e = c.fork_in_turn-forked.ensures in
     let s2_is : c.fork_in_turn-forked.new.seat ≡ s1 = e.same in
     let creds = e.creds ∙ ap (creds_of m'.world) same1.1 in
@@ -76,7 +76,7 @@ returns-then-not-makes_task-clause-task g c =
     let x = c.take_turn-machine.result in
     let m' = c.fork_in_turn-forked.new.machine in
     let seq = c.args.made + 1 in
-    let call = Task (Fork c.args.pid) in
+    let call = Call.Task (TaskCall.Fork c.args.pid) in
     let e = c.fork_in_turn-forked.ensures in
     let s2_is : c.fork_in_turn-forked.new.seat ≡ s1 = e.same in
     let creds = e.creds ∙ ap (creds_of m'.world) same1.1 in
@@ -108,7 +108,7 @@ returns-then-not-makes_task-clause-branched g c =
     let x = c.take_turn-machine.result in
     let m' = c.fork_in_turn-forked.new.machine in
     let seq = c.args.made + 1 in
-    let call = Task (Fork c.args.pid) in
+    let call = Call.Task (TaskCall.Fork c.args.pid) in
     let e = c.fork_in_turn-forked.ensures in
     let s2_is : c.fork_in_turn-forked.new.seat ≡ s1 = e.same in
     let creds = e.creds ∙ ap (creds_of m'.world) same1.1 in
@@ -140,7 +140,7 @@ returns-then-not-makes_task-clause-cost g c =
     let x = c.take_turn-machine.result in
     let m' = c.fork_in_turn-forked.new.machine in
     let seq = c.args.made + 1 in
-    let call = Task (Fork c.args.pid) in
+    let call = Call.Task (TaskCall.Fork c.args.pid) in
     let e = c.fork_in_turn-forked.ensures in
     let s2_is : c.fork_in_turn-forked.new.seat ≡ s1 = e.same in
     let creds = e.creds ∙ ap (creds_of m'.world) same1.1 in
@@ -173,7 +173,7 @@ give_with_child-child-requires-clause-may g c =
     let x = c.take_turn-machine.result in
     let m' = c.fork_in_turn-forked.new.machine in
     let seq = c.args.made + 1 in
-    let call = Task (Fork c.args.pid) in
+    let call = Call.Task (TaskCall.Fork c.args.pid) in
     let e = c.fork_in_turn-forked.ensures in
     let s2_is : c.fork_in_turn-forked.new.seat ≡ s1 = e.same in
     let creds = e.creds ∙ ap (creds_of m'.world) same1.1 in
@@ -182,7 +182,7 @@ give_with_child-child-requires-clause-may g c =
     let is_entry = some.1 in
     let k = some.2.0 in
     let is_child = some.2.1 in
-    let made : IsMade x m' (ruling s1.view.journal) s.number seq call (turned.Entry r) =
+    let made : IsMade x m' (ruling s1.view.journal) s.number seq call (Turned.Entry r) =
     subst (λ (z : ℕ × Turned). IsMade x m' (ruling s1.view.journal) z.0 seq call z.1)
     (λ i. (same1.1 i, is_entry i)) c.in-Ok.ensures.made in
     let may = may_fork c.requires.task x m' t c.args.made c.args.pid r made k is_child e.world in
@@ -198,7 +198,7 @@ invariant_of-result g c =
     let x = c.take_turn-machine.result in
     let m' = c.fork_in_turn-forked.new.machine in
     let seq = c.args.made + 1 in
-    let call = Task (Fork c.args.pid) in
+    let call = Call.Task (TaskCall.Fork c.args.pid) in
     let e = c.fork_in_turn-forked.ensures in
     let s2_is : c.fork_in_turn-forked.new.seat ≡ s1 = e.same in
     let creds = e.creds ∙ ap (creds_of m'.world) same1.1 in
@@ -207,7 +207,7 @@ invariant_of-result g c =
     let is_entry = some.1 in
     let k = some.2.0 in
     let is_child = some.2.1 in
-    let made : IsMade x m' (ruling s1.view.journal) s.number seq call (turned.Entry r) =
+    let made : IsMade x m' (ruling s1.view.journal) s.number seq call (Turned.Entry r) =
     subst (λ (z : ℕ × Turned). IsMade x m' (ruling s1.view.journal) z.0 seq call z.1)
     (λ i. (same1.1 i, is_entry i)) c.in-Ok.ensures.made in
     let may = may_fork c.requires.task x m' t c.args.made c.args.pid r made k is_child e.world in
@@ -238,7 +238,7 @@ returns-in-Err-clause-task g c =
     let x = c.take_turn-machine.result in
     let m' = c.fork_in_turn-forked.new.machine in
     let seq = c.args.made + 1 in
-    let call = Task (Fork c.args.pid) in
+    let call = Call.Task (TaskCall.Fork c.args.pid) in
     let e = c.fork_in_turn-forked.ensures in
     let s2_is : c.fork_in_turn-forked.new.seat ≡ s1 = e.same in
     let creds = e.creds ∙ ap (creds_of m'.world) same1.1 in
@@ -267,7 +267,7 @@ returns-in-Err-clause-stays g c =
     let x = c.take_turn-machine.result in
     let m' = c.fork_in_turn-forked.new.machine in
     let seq = c.args.made + 1 in
-    let call = Task (Fork c.args.pid) in
+    let call = Call.Task (TaskCall.Fork c.args.pid) in
     let e = c.fork_in_turn-forked.ensures in
     let s2_is : c.fork_in_turn-forked.new.seat ≡ s1 = e.same in
     let creds = e.creds ∙ ap (creds_of m'.world) same1.1 in
@@ -296,7 +296,7 @@ returns-in-Err-clause-cost g c =
     let x = c.take_turn-machine.result in
     let m' = c.fork_in_turn-forked.new.machine in
     let seq = c.args.made + 1 in
-    let call = Task (Fork c.args.pid) in
+    let call = Call.Task (TaskCall.Fork c.args.pid) in
     let e = c.fork_in_turn-forked.ensures in
     let s2_is : c.fork_in_turn-forked.new.seat ≡ s1 = e.same in
     let creds = e.creds ∙ ap (creds_of m'.world) same1.1 in
@@ -326,7 +326,7 @@ returns-else-not-makes_task-clause-task g c =
     let x = c.take_turn-machine.result in
     let m' = c.fork_in_turn-forked.new.machine in
     let seq = c.args.made + 1 in
-    let call = Task (Fork c.args.pid) in
+    let call = Call.Task (TaskCall.Fork c.args.pid) in
     let e = c.fork_in_turn-forked.ensures in
     let s2_is : c.fork_in_turn-forked.new.seat ≡ s1 = e.same in
     let creds = e.creds ∙ ap (creds_of m'.world) same1.1 in
@@ -335,7 +335,7 @@ returns-else-not-makes_task-clause-task g c =
     let is_entry = some.1 in
     let k = some.2.0 in
     let is_child = some.2.1 in
-    let made : IsMade x m' (ruling s1.view.journal) s.number seq call (turned.Entry r) =
+    let made : IsMade x m' (ruling s1.view.journal) s.number seq call (Turned.Entry r) =
     subst (λ (z : ℕ × Turned). IsMade x m' (ruling s1.view.journal) z.0 seq call z.1)
     (λ i. (same1.1 i, is_entry i)) c.in-Ok.ensures.made in
     let may = may_fork c.requires.task x m' t c.args.made c.args.pid r made k is_child e.world in
@@ -363,7 +363,7 @@ returns-else-not-makes_task-clause-branched g c =
     let x = c.take_turn-machine.result in
     let m' = c.fork_in_turn-forked.new.machine in
     let seq = c.args.made + 1 in
-    let call = Task (Fork c.args.pid) in
+    let call = Call.Task (TaskCall.Fork c.args.pid) in
     let e = c.fork_in_turn-forked.ensures in
     let s2_is : c.fork_in_turn-forked.new.seat ≡ s1 = e.same in
     let creds = e.creds ∙ ap (creds_of m'.world) same1.1 in
@@ -372,7 +372,7 @@ returns-else-not-makes_task-clause-branched g c =
     let is_entry = some.1 in
     let k = some.2.0 in
     let is_child = some.2.1 in
-    let made : IsMade x m' (ruling s1.view.journal) s.number seq call (turned.Entry r) =
+    let made : IsMade x m' (ruling s1.view.journal) s.number seq call (Turned.Entry r) =
     subst (λ (z : ℕ × Turned). IsMade x m' (ruling s1.view.journal) z.0 seq call z.1)
     (λ i. (same1.1 i, is_entry i)) c.in-Ok.ensures.made in
     let may = may_fork c.requires.task x m' t c.args.made c.args.pid r made k is_child e.world in
@@ -406,7 +406,7 @@ returns-else-not-makes_task-clause-cost g c =
     let x = c.take_turn-machine.result in
     let m' = c.fork_in_turn-forked.new.machine in
     let seq = c.args.made + 1 in
-    let call = Task (Fork c.args.pid) in
+    let call = Call.Task (TaskCall.Fork c.args.pid) in
     let e = c.fork_in_turn-forked.ensures in
     let s2_is : c.fork_in_turn-forked.new.seat ≡ s1 = e.same in
     let creds = e.creds ∙ ap (creds_of m'.world) same1.1 in
@@ -415,7 +415,7 @@ returns-else-not-makes_task-clause-cost g c =
     let is_entry = some.1 in
     let k = some.2.0 in
     let is_child = some.2.1 in
-    let made : IsMade x m' (ruling s1.view.journal) s.number seq call (turned.Entry r) =
+    let made : IsMade x m' (ruling s1.view.journal) s.number seq call (Turned.Entry r) =
     subst (λ (z : ℕ × Turned). IsMade x m' (ruling s1.view.journal) z.0 seq call z.1)
     (λ i. (same1.1 i, is_entry i)) c.in-Ok.ensures.made in
     let may = may_fork c.requires.task x m' t c.args.made c.args.pid r made k is_child e.world in

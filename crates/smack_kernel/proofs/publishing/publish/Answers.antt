@@ -1,7 +1,7 @@
 use Rattle.std.proofs.Common.{ap, subst, ◌∙◌, ◌++◌, ◌∷◌, [], false}
 use Rattle.live_table.specs.Seats.{SeatValue}
 use Rattle.smack_kernel.specs.Growth.{IsJudged}
-use Rattle.smack_kernel.specs.declared.publishing.Published.TheVariants as published
+use Rattle.smack_kernel.specs.declared.publishing.Published.TheVariants as Published
 use Rattle.smack_kernel.proofs.Indexes.{stands_longer}
 use Rattle.smack_kernel.proofs.Growing.{back_grows, back_judged, batch_grows}
 use Rattle.smack_kernel.proofs.publishing.publish.Goals as goal
@@ -32,7 +32,7 @@ returns-in-Ok-NotPrivileged-clause-published g c =
     let is = c.give_pen_back.ensures.view
     ∙ ap (λ (s : SeatValue _). record s.view { pen = false }) c.judge.ensures.same in (
       back_grows v m n c.args.seat.now.number c.requires.numbered c.take_pen.ensures.seen.0 is,
-      back_judged m n c.args.creds.now c.args.batch.now.ops published.NotPrivileged c.in-Ok-NotPrivileged.field-0 is c.in-Ok-NotPrivileged.field-0-is c.in-Ok-NotPrivileged.ensures.judged,
+      back_judged m n c.args.creds.now c.args.batch.now.ops Published.NotPrivileged c.in-Ok-NotPrivileged.field-0 is c.in-Ok-NotPrivileged.field-0-is c.in-Ok-NotPrivileged.ensures.judged,
     )
 
 pub returns-in-Ok-JournalFull-clause-published : goal.returns-in-Ok-JournalFull-clause-published
@@ -44,7 +44,7 @@ returns-in-Ok-JournalFull-clause-published g c =
     ∙ ap (λ (s : SeatValue _). record s.view { pen = false }) c.judge.ensures.same in (
       back_grows v m n c.args.seat.now.number c.requires.numbered c.take_pen.ensures.seen.0 is,
       back_judged m n c.args.creds.now c.args.batch.now.ops
-          (published.JournalFull c.in-Ok-JournalFull.rows) c.in-Ok-JournalFull.field-0 is c.in-Ok-JournalFull.field-0-is c.in-Ok-JournalFull.ensures.judged,
+          (Published.JournalFull c.in-Ok-JournalFull.rows) c.in-Ok-JournalFull.field-0 is c.in-Ok-JournalFull.field-0-is c.in-Ok-JournalFull.ensures.judged,
     )
 
 pub returns-in-Err-clause-err : goal.returns-in-Err-clause-err

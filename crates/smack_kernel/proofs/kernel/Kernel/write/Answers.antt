@@ -2,12 +2,12 @@ use Rattle.std.proofs.Common.{arith, refl, ap, sym, subst, ◌∙◌, ◌≡◌,
 use Rattle.std.specs.Prelude.{Ok, Err}
 use Rattle.file_spec.specs.Files.{compiled}
 use Rattle.smack_kernel.specs.Tasks.{TaskValue, KernelValue, Loads, most_calls}
-use Rattle.file_spec.specs.declared.Compiled.TheVariants as compiles
-use Rattle.world_spec.specs.declared.Call.TheVariants.{Task}
-use Rattle.world_spec.specs.declared.TaskCall.TheVariants as call
+use Rattle.file_spec.specs.declared.Compiled.TheVariants as Compiled
+use Rattle.world_spec.specs.declared.Call.TheVariants as Call
+use Rattle.world_spec.specs.declared.TaskCall.TheVariants as TaskCall
 use Rattle.smack_kernel.specs.Answers.{IsWritten, written_call}
 use Rattle.smack_kernel.specs.declared.kernel.Written.{Written}
-use Rattle.smack_kernel.specs.declared.kernel.Written.TheVariants as written
+use Rattle.smack_kernel.specs.declared.kernel.Written.TheVariants as Written
 use Rattle.smackfs.specs.Gives.{Faults}
 use Rattle.smack_kernel.proofs.Tasks.{loads_none}
 use Rattle.smack_kernel.proofs.Texts.{GoodCompiled, compiled_good, text_refused, own_written}
@@ -35,7 +35,7 @@ returns-in-Err-Refused-clause-written g c =
     (compiled c.self.inside.labels file text)) c.in-Err-Refused.field-0-is c.in-Err-Refused.ensures in
     let few : v.made < most_calls = (let made = ap (λ (t : TaskValue). t.made) c.task.view_is in
     let below = c.if-task-ge-MOST_CALLS.false in omega arith) in
-    let answer = c.refuse_text.ensures.answer ∙ ap (written.Refused v.version) c.in-Err-Refused.fault-is in
+    let answer = c.refuse_text.ensures.answer ∙ ap (Written.Refused v.version) c.in-Err-Refused.fault-is in
     subst (λ (z : TaskValue × Written). IsWritten c.args.self.now.labels v z.0 file text z.1)
     (λ i. (sym c.refuse_text.ensures.refused i, sym answer i)) (
       few,
@@ -56,16 +56,16 @@ pub returns-in-Ok-SelfRules-clause-written : goal.returns-in-Ok-SelfRules-clause
 returns-in-Ok-SelfRules-clause-written g c =
     let file = c.args.file.now in
     let text = c.args.text.now in
-    let is = subst (λ (k : KernelValue). compiled k.labels file text ≡ Ok (compiles.SelfRules c.in-Ok-SelfRules.rules)) c.self.view_is
+    let is = subst (λ (k : KernelValue). compiled k.labels file text ≡ Ok (Compiled.SelfRules c.in-Ok-SelfRules.rules)) c.self.view_is
     (c.in-Ok-SelfRules.ensures ∙ ap Ok c.in-Ok-SelfRules.field-0-is) in
     own_written c.args.self.now.labels c.args.task.now c.write_own.new.task file text
-    (Task (call.SelfRules c.in-Ok-SelfRules.rules)) (ap written_call is) c.write_own.result c.write_own.ensures.written
+    (Call.Task (TaskCall.SelfRules c.in-Ok-SelfRules.rules)) (ap written_call is) c.write_own.result c.write_own.ensures.written
 
 pub returns-in-Ok-Relabels-clause-written : goal.returns-in-Ok-Relabels-clause-written
 returns-in-Ok-Relabels-clause-written g c =
     let file = c.args.file.now in
     let text = c.args.text.now in
-    let is = subst (λ (k : KernelValue). compiled k.labels file text ≡ Ok (compiles.Relabels c.in-Ok-Relabels.labels)) c.self.view_is
+    let is = subst (λ (k : KernelValue). compiled k.labels file text ≡ Ok (Compiled.Relabels c.in-Ok-Relabels.labels)) c.self.view_is
     (c.in-Ok-Relabels.ensures ∙ ap Ok c.in-Ok-Relabels.field-0-is) in
     own_written c.args.self.now.labels c.args.task.now c.write_own-in-Ok-Relabels.new.task file text
-    (Task (call.Relabels c.in-Ok-Relabels.labels)) (ap written_call is) c.write_own-in-Ok-Relabels.result c.write_own-in-Ok-Relabels.ensures.written
+    (Call.Task (TaskCall.Relabels c.in-Ok-Relabels.labels)) (ap written_call is) c.write_own-in-Ok-Relabels.result c.write_own-in-Ok-Relabels.ensures.written
