@@ -14,8 +14,6 @@
 
 mod line;
 mod parts;
-#[cfg(test)]
-mod tests;
 mod values;
 mod words;
 

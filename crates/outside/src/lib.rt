@@ -18,8 +18,6 @@ mod reading;
 mod sink;
 mod source;
 mod standard;
-#[cfg(test)]
-mod tests;
 
 pub use calm::{CalmSink, CalmSource};
 pub use gate::{Gate, OpenGate};

@@ -11,8 +11,6 @@
 mod fields;
 mod head;
 mod op;
-#[cfg(test)]
-mod tests;
 
 pub use head::{Head, pack_head, unpack_head};
 pub use op::{pack, unpack};

@@ -10,24 +10,12 @@
 
 mod calm;
 mod command;
-#[cfg(test)]
-mod kernel_calls;
-#[cfg(test)]
-mod kernel_tests;
-#[cfg(test)]
-mod limit_tests;
 mod reading;
 mod records;
-#[cfg(test)]
-mod run_tests;
 mod running;
 mod status;
 mod telling;
-#[cfg(test)]
-mod tests;
 mod top;
-#[cfg(test)]
-mod version_tests;
 mod writing;
 
 pub use calm::{replay_calm, run_calm};
