@@ -1,4 +1,4 @@
-use Rattle.std.specs.Prelude.{ℕ, List, Option}
+use Rattle.std.specs.Prelude.{ℕ, List, Option, Some}
 
 -- what is seen of a source or of a sink: its bytes, those left or those taken, where it tells them; its count of faults
 pub record Seen : Type 0 where
@@ -8,3 +8,7 @@ pub record Seen : Type 0 where
 -- what is seen of this one, by the meanings that its type has
 abbrev pub seen : {T : Type 0} → (T → Option (List ℕ)) → (T → ℕ) → T → Seen
 seen bytes faults it = record { bytes = bytes it; faults = faults it }
+
+-- what is seen of one that tells these bytes and never fails
+abbrev pub calm : List ℕ → Seen
+calm bytes = record { bytes = Some bytes; faults = 0 }

@@ -73,8 +73,8 @@ fn report_of(
 
 /// Runs a script, each task on a thread of its own, and gives its record with what the closed kernel
 /// handed out. However the threads interleave, the record is legal for the script: it is one history
-/// of one world under one journal of rules. It is plain too: its text tells all of it. Its journal
-/// and its history are those of the kernel.
+/// of one world under one journal of rules. It is plain too: its text tells all of it. Its labels, its
+/// journal and its history are those of the kernel.
 pub fn run<R: Threads + Wait + Sync, G: Gate + Sync>(
     rt: &R,
     alloc: Global,
@@ -83,7 +83,7 @@ pub fn run<R: Threads + Wait + Sync, G: Gate + Sync>(
 ) -> Result<Ran, AllocError>
     ensures legal { IfOk result (λ r. IsLegalFor script.now r.report) }
     ensures plain { IfOk result (λ r. IsPlain r.report) }
-    ensures closed { IfOk result (λ r. (r.report.journal ≡ r.closed.journal) × (r.report.history ≡ r.closed.history)) }
+    ensures closed { IfOk result (λ r. (r.report.labels ≡ r.closed.labels) × (r.report.journal ≡ r.closed.journal) × (r.report.history ≡ r.closed.history)) }
 {
     let Ok((closed, asked)) = close_run(rt, alloc, script, gate) else {
         return Err(AllocError);

@@ -4,7 +4,7 @@ use Rattle.outside.proofs.Rising.{zero_never_rises}
 use Rattle.smack_program.specs.Ends.{IsCalm}
 
 -- a source and a sink whose counts are always 0 are calm
-pub calm : (bytes : List ℕ) (left taken taken' : Option (List ℕ))
+pub are_calm : (bytes : List ℕ) (left taken taken' : Option (List ℕ))
     → IsCalm bytes (record { bytes = Some bytes; faults = 0 }) (record { bytes = left; faults = 0 }) (record { bytes = taken; faults = 0 })
     (record { bytes = taken'; faults = 0 })
-calm bytes left taken taken' = record { told = refl; read = zero_never_rises; written = zero_never_rises }
+are_calm bytes left taken taken' = record { told = refl; read = zero_never_rises; written = zero_never_rises }

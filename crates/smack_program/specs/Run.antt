@@ -14,10 +14,10 @@ use Rattle.smack_program.specs.declared.status.Status.{Status}
 use Rattle.smack_program.specs.declared.status.Status.TheVariants as Status
 use Rattle.smack_program.specs.Scripts.{IsNoScript, ScriptEnds}
 
--- what is kept of a kernel, if something is, is the journal and the history of the record
+-- what is kept of a kernel, if something is, is the labels, the journal and the history of the record
 abbrev pub IsKeptOf : RunRecord → Option ClosedValue → Type 0
 IsKeptOf r None = Unit {0}
-IsKeptOf r (Some closed) = (r.journal ≡ closed.journal) × (r.history ≡ closed.history)
+IsKeptOf r (Some closed) = (r.labels ≡ closed.labels) × (r.journal ≡ closed.journal) × (r.history ≡ closed.history)
 
 -- The record is one of those that the script may have which these bytes are, when its tasks run at once. It is legal for
 -- this script, and its text tells all of it.
@@ -41,7 +41,7 @@ run_answers kept bytes (Err status) = IsNoScript bytes status
 -- How a run ended, and what is then kept of its kernel.
 pub record RunEnds (kept : Option ClosedValue) (source source' sink sink' : Seen) (status : Status) : Type 0 where
   pub ends : ScriptEnds (run_answers kept) source source' sink sink' status
-  -- at Done the journal and the history of the record whose text was written are kept, and else nothing is
+  -- at Done the labels, the journal and the history of the record whose text was written are kept, and else nothing is
   pub done : status ≡ Status.Done → IsSome kept
   pub other : status ≢ Status.Done → kept ≡ None
 

@@ -1,8 +1,7 @@
-ghost use Rattle.std.specs.Prelude.{◌≡◌, ◌≢◌, ◌+◌, [], Option, map, string_bytes};
+ghost use Rattle.std.specs.Prelude.{◌≡◌, ◌≢◌, ◌+◌, [], None, map, string_bytes};
 ghost use Rattle.outside.specs.Seen.{seen};
 ghost use Rattle.outside.specs.Reading.{ReadsAtMost};
 ghost use Rattle.script_spec.specs.Grammar.{most_bytes};
-ghost use Rattle.smack_kernel.specs.Answers.{ClosedValue};
 ghost use Rattle.smack_program.specs.declared.status.Status.{Status as StatusOf};
 ghost use Rattle.smack_program.specs.Program.{ProgramEnds};
 ghost use Rattle.smack_program.specs.Statuses.{code_of};
@@ -12,6 +11,7 @@ use crate::telling::tell;
 use crate::top::smack_main;
 use outside::{Gate, OpenGate, Sink, SinkFault, Source, StdSink, StdSource};
 use smack_base::Sequence;
+use smack_kernel::Closed;
 use std::alloc::Global;
 use std::env;
 use std::io::{Error, ErrorKind, Read, Write};
@@ -29,8 +29,8 @@ pub struct Ending {
 }
 
 /// The program: does what the words of the command line say, tells the status on standard error,
-/// and gives the exit status. What is kept of a run ends here. At exit status 2 nothing is read, at
-/// each but 0, 5 and 6 nothing is written, and at 0 the sink keeps nothing back.
+/// and gives the exit status. `kept` has what the kernel of a run handed out. At exit status 2 nothing
+/// is read, at each but 0, 5 and 6 nothing is written, and at 0 the sink keeps nothing back.
 pub fn told_main<R: Threads + Wait + Sync, S: Source, K: Sink, E: Sink, G: Gate + Sync>(
     rt: &R,
     alloc: Global,
@@ -39,15 +39,16 @@ pub fn told_main<R: Threads + Wait + Sync, S: Source, K: Sink, E: Sink, G: Gate 
     sink: &mut K,
     errors: &mut E,
     gate: &G,
+    kept: &mut Option<Closed>,
 ) -> Ending
-    ensures ends { (kept : Option ClosedValue) × (status : StatusOf) × ProgramEnds (map string_bytes words.now) kept (seen S.left S.faults source.old) (seen S.left S.faults source.new) (seen K.taken K.faults sink.old) (seen K.taken K.faults sink.new) (seen E.taken E.faults errors.old) (seen E.taken E.faults errors.new) status result }
+    requires { kept.old ≡ None }
+    ensures ends { (status : StatusOf) × ProgramEnds (map string_bytes words.now) kept.new (seen S.left S.faults source.old) (seen S.left S.faults source.new) (seen K.taken K.faults sink.old) (seen K.taken K.faults sink.new) (seen E.taken E.faults errors.old) (seen E.taken E.faults errors.new) status result }
     ensures unread { result.code ≡ code_of Status.Usage → source.new ≡ source.old }
     ensures handed_on { result.code ≡ code_of Status.Done → K.kept sink.new ≡ [] }
     ensures untouched { result.code ≢ code_of Status.Done → result.code ≢ code_of Status.WriteFault → result.code ≢ code_of Status.OutOfMemory → sink.new ≡ sink.old }
     ensures reads { ReadsAtMost (S.reads source.old) (S.reads source.new) (most_bytes + 2) }
 {
-    let mut kept = None;
-    let status = smack_main(rt, alloc, words, source, sink, gate, &mut kept);
+    let status = smack_main(rt, alloc, words, source, sink, gate, kept);
     Ending {
         code: status.code(),
         told: tell(errors, status),
@@ -106,6 +107,7 @@ pub fn program<
             return status.code();
         }
     };
+    let mut kept = None;
     told_main(
         rt,
         rt.alloc(),
@@ -114,6 +116,7 @@ pub fn program<
         &mut sink,
         &mut errors,
         &OpenGate,
+        &mut kept,
     )
     .code
 }

@@ -7,7 +7,6 @@ use Rattle.smack_program.proofs.running.told_main.Goals as goal
 -- the status is that of the command
 pub returns-clause-ends : goal.returns-clause-ends
 returns-clause-ends g c = (
-  c.smack_main-status.new.kept,
   c.smack_main-status.result,
   record {
     replays = c.smack_main-status.ensures.replays;
