@@ -119,7 +119,7 @@ def not_built_reason(words: list[Word]) -> Found:
     verb = words[1]
     if verb.text == "write" and len(words) > 2:
         return under(words[2], f"the file {words[2].text} is not built into this program yet")
-    if verb.text in ("create", "unlink", "list") and len(words) > 2:
+    if kinds.PATH in tables.VERBS.get(verb.text, ()) and verb.text in tables.BUILT_VERBS and len(words) > 2:
         return under(words[2], "a path has one name yet: there is no directory but the root")
     return under(verb, f"the verb {verb.text} is not built into this program yet")
 

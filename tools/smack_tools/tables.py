@@ -1,7 +1,7 @@
 """The tables of the script and of the record: verbs and their words, smackfs files, limits, cases, answers.
 A verb that the program lacks still stands here; the program itself says that it is not built."""
 
-from . import kinds
+from . import calls, kinds
 from .kinds import Kind
 
 TRACE_WAY = kinds.one_of("WAY", "read", "attach")
@@ -60,7 +60,7 @@ VERBS: dict[str, tuple[Kind, ...]] = {
 }
 
 # The verbs that the program has.
-BUILT_VERBS = tuple("write ask fork exit wait relabel drop kill take trace create unlink list".split())
+BUILT_VERBS = calls.built_verbs()
 
 # The calls that ask with the label of a socket, which need not be that of the task.
 SOCKET_VERBS = {"send", "connect", "say", "inject"}

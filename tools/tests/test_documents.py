@@ -2,9 +2,10 @@
 
 import re
 
+from smack_tools import calls, tables
 from tests.front_door import TOP, FrontDoorTest
 
-GUIDES = ("POLICY", "PROOFS", "SCRIPT", "RECORD", "SMACK", "DIFFERENCES")
+GUIDES = ("POLICY", "PROOFS", "SCRIPT", "CALLS", "RECORD", "SMACK", "DIFFERENCES")
 AUTHORS_PAGES = ("README.md", *(f"docs/{name}.md" for name in GUIDES))
 BLOCK = re.compile(r"```\n(.*?)```", re.DOTALL)
 
@@ -48,6 +49,32 @@ class TestDocuments(FrontDoorTest):
         script = "init write load2 1\nMail Spool r\n\ninit ask Mail Spool rz\n"
         said = self.smack("replay", self.file("mail.smack", script))
         self.assertEqual(shown.split("\n", 1)[1], said.err)
+
+    def test_the_words_of_each_call_are_those_that_the_program_takes(self) -> None:
+        good = {"FILE": "load2", "N": "0", "LABEL": "Mail", "MODES": "r", "NAME": "reader", "CAP": "mac-admin"}
+        good |= {"SIG": "9", "PATH": "/notes"}
+        for call in calls.built_calls(calls.PAGE.read_text()):
+            words = [good.get(word, word) for word in call]
+            before = "" if call[0] == "fork" else "init fork reader\n"
+            self.assertEqual(self.smack("replay", given=f"{before}init {' '.join(words)}\n".encode()).err, "", call)
+            longer = self.smack("replay", given=f"init {' '.join(words)} one-more\n".encode())
+            self.assertEqual(longer.err, "smack: line 1: words\n", call)
+
+    def test_the_words_of_each_call_are_those_of_the_table_of_verbs(self) -> None:
+        for verb, *words in calls.built_calls(calls.PAGE.read_text()):
+            kinds = tables.VERBS[verb]
+            self.assertEqual(len(kinds), len(words), verb)
+            for kind, word in zip(kinds, words):
+                self.assertTrue(word == kind.name or kind.fault(word) is None, f"{verb}: {word}")
+
+    def test_each_reply_and_refusal_of_a_call_is_one_of_the_record(self) -> None:
+        page = calls.PAGE.read_text()
+        rows = [row.split(" | ") for row in page.splitlines() if row.startswith("| `") and row.count(" | ") == 3]
+        for _, refused, _, reply in rows:
+            for name in re.findall(r"`([a-z-]{4,})`", refused):
+                self.assertIn(name, tables.REFUSALS)
+            for name in re.findall(r"`([a-z]+)", reply):
+                self.assertIn(name, tables.REPLIES)
 
     def test_links_lead_somewhere(self) -> None:
         for page in (TOP / name for name in AUTHORS_PAGES):
