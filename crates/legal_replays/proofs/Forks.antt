@@ -90,7 +90,7 @@ true_is_not_false : (b : Bool) → b ≡ true → b ≡ false → ⊥
 true_is_not_false true is not = cc
 true_is_not_false false is not = cc
 
-pub longer_fork : (history : List Entry) (e : Entry) (task parent : ℕ) → HasFork history task parent → HasFork (history ++ e ∷ []) task parent
+abbrev pub longer_fork : (history : List Entry) (e : Entry) (task parent : ℕ) → HasFork history task parent → HasFork (history ++ e ∷ []) task parent
 longer_fork history e task parent has = record {
   place = has.place;
   fork = has.fork;

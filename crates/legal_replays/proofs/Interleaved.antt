@@ -174,6 +174,7 @@ wait_told pid is = record {
   there = refl;
   is = (ap (λ p. Call.Task (TaskCall.Fork p)) is, refl);
   own = refl;
+  after = omega arith;
   told = λ task seq needs reaches down call. (bounds task seq needs reaches call).1;
   behind = λ i k e f down at_e at_f own later.
       let number = one_entry (λ n x. x.seq ≡ 1) refl k f at_f in

@@ -15,7 +15,7 @@ use Rattle.world_spec.specs.Steps.{verdict_by_creds}
 use Rattle.record_spec.specs.declared.AskedWhat.TheVariants as AskedWhat
 use Rattle.legal_spec.specs.Calls.{Stands, IsForkOf, IsNumberOf, IsBefore, batch, asked, Descends, itself, child as child_of}
 use Rattle.legal_spec.specs.Legal.{IsLegal}
-use Rattle.legal_replays.specs.RefusedRecords.{a_label, c_label, b_pid, c_pid, published, entered, asked_in, by_rule, without_rule, stale_ask, wrong_answer, stale_child, early_wait, early_entry, early_child, swapped_batches, unprivileged_batch, falling_version, swapped_lines, unknown_task, missing_number, name_twice, wrong_reply, wrong_check, missing_check, entry_beyond, ask_beyond, privileged_refusal, own_file_refusal, wrong_rows, wait_below_grandchild, RefusedRecords}
+use Rattle.legal_replays.specs.RefusedRecords.{a_label, c_label, b_pid, c_pid, published, entered, asked_in, by_rule, without_rule, stale_ask, wrong_answer, stale_child, early_wait, early_entry, early_child, swapped_batches, unprivileged_batch, falling_version, swapped_lines, unknown_task, missing_number, name_twice, wrong_reply, wrong_check, missing_check, entry_beyond, ask_beyond, privileged_refusal, own_file_refusal, wrong_rows, wait_below_grandchild, wait_before_fork, wait_for_sibling, wait_for_nobody, RefusedRecords}
 use Rattle.legal_replays.proofs.Places.{same_some}
 
 -- the case of the first check; 0 where there is none
@@ -173,6 +173,36 @@ descendant legal =
     child_of 1 (entered 1 1 0 (TaskCall.Fork c_pid) (Reply.Child 2)) 2 c_pid down refl (refl, refl) in
     omega (arith, w.told 2 1 0 1 lower (batch 0 (published 2 1 (RuleOp.Set a_label c_label read)) refl))
 
+-- the number of the call that forks behind the wait
+fork_seq : (place : ℕ) (fork : Entry) → Stands wait_before_fork.history place fork → fork.seq ≡ 2
+fork_seq zero fork at = sym (ap (λ (e : Entry). e.seq) (same_some _ fork at))
+fork_seq (suc n) fork at = cc
+
+early : IsLegal wait_before_fork → ⊥
+early legal =
+    let w = legal.fresh.waited 0 (asked_in 0 1 0 (AskedWhat.Wait b_pid)) b_pid refl refl in
+    omega (arith, fork_seq w.place w.fork w.there, w.after)
+
+-- both forks are of the first task
+sibling_parent : (place : ℕ) (fork : Entry) → Stands wait_for_sibling.history place fork → fork.task ≡ 0
+sibling_parent zero fork at = sym (ap (λ (e : Entry). e.task) (same_some _ fork at))
+sibling_parent (suc zero) fork at = sym (ap (λ (e : Entry). e.task) (same_some _ fork at))
+sibling_parent (suc (suc n)) fork at = cc
+
+other_child : IsLegal wait_for_sibling → ⊥
+other_child legal =
+    let w = legal.fresh.waited 0 (asked_in 2 1 0 (AskedWhat.Wait b_pid)) b_pid refl refl in
+    omega (arith, sibling_parent w.place w.fork w.there, w.own)
+
+nobody : (place : ℕ) (fork : Entry) → Stands wait_for_nobody.history place fork → ⊥
+nobody zero fork at = cc
+nobody (suc n) fork at = cc
+
+no_child : IsLegal wait_for_nobody → ⊥
+no_child legal =
+    let w = legal.fresh.waited 0 (asked_in 0 1 0 (AskedWhat.Wait b_pid)) b_pid refl refl in
+    nobody w.place w.fork w.there
+
 pub refused : RefusedRecords
 refused = record {
   ask = ask;
@@ -197,4 +227,7 @@ refused = record {
   own_file = own_file;
   rows = rows;
   descendant = descendant;
+  early = early;
+  other_child = other_child;
+  no_child = no_child;
 }

@@ -80,6 +80,7 @@ module _ (labels names : List (List ℕ)) where
     pub there : pid.0 < length (task_names above)
     pub waited : has_wait above pid.0 ≡ true
     pub fork : HasFork run.history pid.0 a.task
+    pub after : fork.fork.seq < a.seq
     pub told : (task seq needs reaches : ℕ) → CallIn labels names run task seq needs reaches → is_below above pid.0 task ≡ true
         → reaches ≤ a.version
     pub behind : (i k : ℕ) (e f : Entry) → is_below above pid.0 e.task ≡ true → Stands run.history i e → Stands run.history k f
@@ -91,6 +92,13 @@ module _ (labels names : List (List ℕ)) where
   fork_kept run after l (entry call of) task parent has = longer_fork run.history (entry_by run l call) task parent has
   fork_kept run after l (asked what of so) task parent has = has
 
+  same_fork : (run after : Run) (l : ScriptLine) (next : IsNext labels names run l after) (task parent : ℕ) (has : HasFork run.history task parent)
+      → (fork_kept run after l next task parent has).fork ≡ has.fork
+  unfolding fork_kept
+  same_fork run after l (batch ops of may) task parent has = refl
+  same_fork run after l (entry call of) task parent has = refl
+  same_fork run after l (asked what of so) task parent has = refl
+
   old_wait : (above : List ScriptLine) (run after : Run) (l : ScriptLine) → Replays labels names above run → IsGoodLine above l
       → IsNext labels names run l after → (a : AskedLine) (pid : Pid) → IsAwaited above run a pid → IsAwaited (above ++ l ∷ []) after a pid
   old_wait above run after l replays good next a pid was =
@@ -99,6 +107,8 @@ module _ (labels names : List (List ℕ)) where
         there = omega (arith, was.there, tasks_more above l);
         waited = waited_more above l pid.0 was.there was.waited;
         fork = fork_kept run after l next pid.0 a.task was.fork;
+        after =
+            subst (λ (e : Entry). e.seq < a.seq) (sym (same_fork run after l next pid.0 a.task was.fork)) was.after;
         told = λ task seq needs reaches c below.
             elim (call_grows labels names run after l next task seq needs reaches c) [
               | inl old ↦
@@ -124,6 +134,15 @@ module _ (labels names : List (List ℕ)) where
             ];
       }
 
+  -- the fork that a good line waits for is of an earlier call
+  forked_before : (above : List ScriptLine) (run : Run) (l : ScriptLine) → Replays labels names above run → IsGoodLine above l
+      → (a : AskedLine) → a.task ≡ l.task → a.seq ≡ l.seq → (pid : Pid) (has : HasFork run.history pid.0 a.task) → has.fork.seq < a.seq
+  forked_before above run l replays good a task seq pid has =
+      let e = has.fork in
+      let within = calls_within labels names above run replays e.task e.seq e.version e.version (entry_call has.place e has.there) in
+      let count : calls_by above e.task ≡ calls_by above l.task = ap (λ t. calls_by above t) (has.own ∙ task) in
+      omega (arith, within.to, count, good.seq, seq)
+
   -- a new one
   new_wait : (above : List ScriptLine) (run : Run) (l : ScriptLine) → Replays labels names above run → IsGoodLine above l
       → AreForked above run.history → (after : Run) → after.history ≡ run.history → Replays labels names (above ++ l ∷ []) after
@@ -132,9 +151,8 @@ module _ (labels names : List (List ℕ)) where
   new_wait above run l replays good forked after same replayed as_long a task seq version pid line = record {
     there = omega (arith, line.there, tasks_more above l);
     waited = line.waited;
-    fork =
-        subst (λ (h : List Entry). HasFork h pid.0 a.task) (sym same)
-        (subst (λ (k : ℕ). HasFork run.history pid.0 k) (sym task) (forked.there pid.0 l.task line.child));
+    fork = has.0;
+    after = has.1;
     told = λ k q n m c below. omega (arith, (calls_within labels names (above ++ l ∷ []) after replayed k q n m c).version, version, as_long);
     behind = λ i k e f below at_e at_f own later.
         let at : Stands run.history k f = subst (λ (h : List Entry). Stands h k f) same at_f in
@@ -142,6 +160,12 @@ module _ (labels names : List (List ℕ)) where
         let count : calls_by above f.task ≡ calls_by above l.task = ap (λ t. calls_by above t) (own ∙ task) in
         absurd (omega (arith, within.to, count, good.seq, seq, later));
   }
+    where
+      has : (has : HasFork after.history pid.0 a.task) × (has.fork.seq < a.seq)
+      has =
+          subst (λ (h : List Entry). (has : HasFork h pid.0 a.task) × (has.fork.seq < a.seq)) (sym same)
+          (let old = subst (λ (k : ℕ). HasFork run.history pid.0 k) (sym task) (forked.there pid.0 l.task line.child) in
+          (old, forked_before above run l replays good a task seq pid old))
 
   waits_are_told : IsNameTable names → (above : List ScriptLine) (run : Run) → Replays labels names above run → (i : ℕ) (a : AskedLine) (pid : Pid)
       → Stands run.asked i a → a.what ≡ AskedWhat.Wait pid → IsAwaited above run a pid
@@ -179,6 +203,7 @@ module _ (labels names : List (List ℕ)) where
         there = w.fork.there;
         is = w.fork.is;
         own = w.fork.own;
+        after = w.after;
         told = λ task seq needs reaches down c. w.told task seq needs reaches c (descends above run.history forked pid.0 task down);
         behind = λ i k e f down at_e at_f own later.
             w.behind i k e f (descends above run.history forked pid.0 e.task down) at_e at_f own later;

@@ -175,6 +175,20 @@ abbrev pub wait_below_grandchild : RunRecord
 wait_below_grandchild = record_of (published 2 1 (RuleOp.Set a_label c_label read) ∷ [])
     (entered 0 1 0 (TaskCall.Fork b_pid) (Reply.Child 1) ∷ entered 1 1 0 (TaskCall.Fork c_pid) (Reply.Child 2) ∷ []) (asked_in 0 2 0 (AskedWhat.Wait b_pid) ∷ [])
 
+-- a wait that stands before the fork of the task that it waits for
+abbrev pub wait_before_fork : RunRecord
+wait_before_fork = record_of [] (entered 0 2 0 (TaskCall.Fork b_pid) (Reply.Child 1) ∷ [])
+    (asked_in 0 1 0 (AskedWhat.Wait b_pid) ∷ asked_in 1 1 0 (AskedWhat.Ask without_rule) ∷ [])
+
+-- a wait for the child of another task
+abbrev pub wait_for_sibling : RunRecord
+wait_for_sibling = record_of [] (entered 0 1 0 (TaskCall.Fork b_pid) (Reply.Child 1) ∷ entered 0 2 0 (TaskCall.Fork c_pid) (Reply.Child 2) ∷ [])
+    (asked_in 2 1 0 (AskedWhat.Wait b_pid) ∷ [])
+
+-- a wait for a task that nobody made
+abbrev pub wait_for_nobody : RunRecord
+wait_for_nobody = record_of [] [] (asked_in 0 1 0 (AskedWhat.Wait b_pid) ∷ [])
+
 -- What the definitions refuse.
 pub record RefusedRecords : Type 0 where
   pub ask : IsLegal stale_ask → ⊥
@@ -199,3 +213,6 @@ pub record RefusedRecords : Type 0 where
   pub own_file : IsLegal own_file_refusal → ⊥
   pub rows : IsLegal wrong_rows → ⊥
   pub descendant : IsLegal wait_below_grandchild → ⊥
+  pub early : IsLegal wait_before_fork → ⊥
+  pub other_child : IsLegal wait_for_sibling → ⊥
+  pub no_child : IsLegal wait_for_nobody → ⊥

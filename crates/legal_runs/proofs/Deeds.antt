@@ -119,6 +119,15 @@ ordered s t q a (x ∷ ds) (l ∷ ls) rest z d d' f r here (there h') lt = let n
 ordered s t q a (x ∷ ds) (l ∷ ls) rest z d d' f r (there h) here lt = absurd (let e = (fits_of s t q x l f.0).1 in let i = seq_low s t (q + 1) ds ls rest d f.1 h in omega arith)
 ordered s t q a (x ∷ ds) (l ∷ ls) rest z d d' f r (there h) (there h') lt = ordered s t (q + 1) r.0 ds ls rest z d d' f.1 r.2 h h' lt
 
+-- a call has one number
+pub one_deed : (s : Scripted) (t q : ℕ) (ds : List Deed) (ls rest : List ScriptLine) (d d' : Deed) → FitsTo s t q ds ls rest → Has d ds → Has d' ds → seq_of d ≡ seq_of d' → d ≡ d'
+one_deed s t q [] ls rest d d' f h h' same = elim h [ ]
+one_deed s t q (x ∷ ds) [] rest d d' f h h' same = absurd f
+one_deed s t q (x ∷ ds) (l ∷ ls) rest d d' f here here same = refl
+one_deed s t q (x ∷ ds) (l ∷ ls) rest d d' f here (there h') same = absurd (let e = (fits_of s t q x l f.0).1 in let i = seq_low s t (q + 1) ds ls rest d' f.1 h' in omega arith)
+one_deed s t q (x ∷ ds) (l ∷ ls) rest d d' f (there h) here same = absurd (let e = (fits_of s t q x l f.0).1 in let i = seq_low s t (q + 1) ds ls rest d f.1 h in omega arith)
+one_deed s t q (x ∷ ds) (l ∷ ls) rest d d' f (there h) (there h') same = one_deed s t (q + 1) ds ls rest d d' f.1 h h' same
+
 pub deed_of_entry : (ds : List Deed) (e : Entry) → Has e (entries_in ds) → (n : ℕ) × Has (entered e n) ds
 deed_of_entry [] e h = elim h [ ]
 deed_of_entry (entered x n ∷ ds) e here = (n, here)

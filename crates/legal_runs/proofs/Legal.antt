@@ -2,6 +2,8 @@
 use Rattle.std.proofs.Common.{◌≡◌, ℕ, ◌+◌, ◌<◌, ◌≤◌, ◌⊎◌, List, [], ◌∷◌, length, Bool, true, sym, refl, ap, ◌∙◌, subst, arith, ⊎_elim, inl, inr, Some}
 use mathlib.Core.Logic.{dite}
 use native.Mathlib.Decide.{ℕ_discrete}
+use Rattle.std.proofs.Math.Nat.{eq-or-lt_of_le}
+use Rattle.std.proofs.lemmas.Bool.{cases_lt}
 use Rattle.std.specs.Prelude.{is_some}
 use Rattle.atomic_table.specs.Seated.{TableId}
 use Rattle.smack_base.specs.declared.ids.Pid.{Pid}
@@ -41,9 +43,9 @@ use Rattle.task_runs.specs.Runs.{own, numbers, asked_of, Went}
 use Rattle.task_runs.proofs.Runs.{version_clock, place_clock}
 use Rattle.legal_runs.specs.Laws.{RunsAreLegal}
 use Rattle.legal_runs.proofs.Lists.{stands_has, has_stands}
-use Rattle.legal_runs.proofs.Deeds.{seq_of, fits_are, over_rises, ordered, rises_within, at_of, place_high_of, place_low_of, Saw, saw_low, place_order, Later}
+use Rattle.legal_runs.proofs.Deeds.{seq_of, fits_are, over_rises, ordered, rises_within, one_deed, places_up, at_of, place_high_of, place_low_of, Saw, saw_low, place_order, Later}
 use Rattle.legal_runs.proofs.Lives.{Life, DeedOf, seqs_rise, line_seqs_rise, entry_deed, batch_deed, line_deed, later_place}
-use Rattle.legal_runs.proofs.Family.{Part, own_of, lift, find, Waiter, waits_in, line_task}
+use Rattle.legal_runs.proofs.Family.{Part, own_of, lift, find, Waiter, Awaits_, waits_in, line_task}
 use Rattle.legal_runs.proofs.Whole.{makes_own, all_numbers}
 use Rattle.legal_runs.proofs.Histories.{child_above, one_child, same_stand, versions_rise, versions_within}
 use Rattle.legal_runs.proofs.Sorting.{in_order, order_keeps, order_has, tasks_rise}
@@ -325,6 +327,35 @@ module _ (full : Bool) (s : Scripted) (left : List ScriptLine) (done : full ≡ 
       whole b =
           later_place full s j h told a.task b.0 a m b.1 e n (entry_deed full s j h told a.task b.0 n e st is) lt
 
+  no_line : (e : Entry) (n : ℕ) (a : AskedLine) (m : ℕ) → entered e n ≡ answered a m → ⊥
+  no_line e n a m is = cc
+
+  -- it waits behind its fork
+  wait_behind : (i : ℕ) (a : AskedLine) (pid : Pid) → Stands ls i a → (W : Awaits_ full s j h told 0 (own g.run) (numbers g.run) root.to_place a pid)
+      → W.fork.seq < a.seq
+  wait_behind i a pid st W =
+      ⊎_elim (λ lt. lt) (λ le. ⊎_elim (λ same. absurd (no_line W.fork W.place a line.0 (one_number (sym same)))) (λ lt. absurd (low lt)) (eq-or-lt_of_le le))
+      (cases_lt W.fork.seq a.seq)
+    where
+      L : Life full s j h ls a.task
+      L = life a.task (line_number i a st)
+
+      line : (m : ℕ) × Has (answered a m) L.calls
+      line = line_deed full s j h ls a.task L a (stands_has ls i a st) refl
+
+      one_number : W.fork.seq ≡ a.seq → entered W.fork W.place ≡ answered a line.0
+      one_number same =
+          one_deed s a.task 1 L.calls (lines_by L.pid s.lines) L.rest (entered W.fork W.place) (answered a line.0) L.fits
+          (entry_deed full s j h ls a.task L W.place W.fork W.there_ W.by) line.1 same
+
+      low : a.seq < W.fork.seq → ⊥
+      low lt =
+          let F = W.lives W.number W.mine in
+          let first = fork_first W.place W.fork W.number W.there_ W.is.1 (ordered_life W.number F.life) in
+          let up = places_up F.life.place_low F.life.calls F.life.place_high F.life.places in
+          let top : F.life.place_high ≤ W.bound = F.place in
+          let late = waiter_low a W.bound W.waiter W.place W.fork W.there_ W.by lt in omega arith
+
   pub has_waited : (i : ℕ) (a : AskedLine) (pid : Pid) → Stands ls i a → a.what ≡ AskedWhat.Wait pid → HasWaited record_of a pid
   has_waited i a pid st is =
       let W = waits_in full s j h 0 g.run 0 w.version root a pid (order_has told a (stands_has ls i a st)) is in
@@ -335,6 +366,7 @@ module _ (full : Bool) (s : Scripted) (left : List ScriptLine) (done : full ≡ 
         there = W.there_;
         is = W.is;
         own = W.by;
+        after = wait_behind i a pid st W;
         told = λ k q n r D call.
             let F = W.lives k (fam_of W.number W.fam W.mine W.closed k D) in
             let L = ordered_life k F.life in

@@ -77,7 +77,8 @@ IsSo r a (AskedWhat.Wait pid) = Unit {0}
 abbrev pub AreAnswered : RunRecord → Type 0
 AreAnswered r = (i : ℕ) (a : AskedLine) → Stands r.asked i a → (a.version ≤ length r.journal) × IsSo r a a.what
 
--- A task that waited for its child has been told of all that the child and those that descend from it did.
+-- A task that waited for its child, which an earlier call of its own forked, has been told of all that the child and
+-- those that descend from it did.
 pub record HasWaited (r : RunRecord) (a : AskedLine) (pid : Pid) : Type 0 where
   pub number : ℕ
   pub place : ℕ
@@ -85,6 +86,7 @@ pub record HasWaited (r : RunRecord) (a : AskedLine) (pid : Pid) : Type 0 where
   pub there : Stands r.history place fork
   pub is : IsForkOf fork number pid
   pub own : fork.task ≡ a.task
+  pub after : fork.seq < a.seq
   -- none of their calls reached more than the version of the wait
   pub told : (task seq needs reaches : ℕ) → Descends r.history number task → IsCall r task seq needs reaches
       → reaches ≤ a.version
