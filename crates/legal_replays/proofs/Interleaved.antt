@@ -24,6 +24,7 @@ use Rattle.legal_spec.specs.Legal.{IsEachCallOnce, AreJudged, IsSo, HasWaited, I
 use Rattle.legal_spec.specs.Fits.{IsRecorded, batch as batch_of, entry as entry_of, asked as asked_of, HasItsLines}
 use Rattle.legal_replays.specs.RefusedRecords.{a_label, c_label, b_pid, published, entered, asked_in, by_rule}
 use Rattle.legal_replays.specs.Interleaved.{script_lines, faster_child, OtherOrder}
+use Rattle.legal_replays.proofs.Steps.{are_judged}
 use Rattle.legal_replays.proofs.Places.{same_some}
 use Rattle.legal_replays.proofs.Listed.{listed_pairs}
 
@@ -124,14 +125,14 @@ calls = record {
 }
 
 entries : AreJudged faster_child
-entries = record {
+entries = are_judged faster_child (record {
   steps = (refl, refl, tt);
   rising = λ i k e f at_e at_f before.
       let first = one_entry (λ n x. n ≡ 0) refl i e at_e in
       let last = one_entry (λ n x. n ≡ 0) refl k f at_f in
       absurd (omega (arith, first, last, before));
   within = one_entry (λ n x. x.version ≤ length faster_child.journal) (omega arith);
-}
+})
 
 privileged : (i : ℕ) (b : Batch) → Stands faster_child.journal i b
     → is_effective (cred_at faster_child.journal faster_child.history b.task b.seq) Cap.MacAdmin (version_of faster_child.journal i) ≡ true

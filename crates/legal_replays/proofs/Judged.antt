@@ -13,6 +13,7 @@ use Rattle.legal_spec.specs.Calls.{Stands, entry as entry_call}
 use Rattle.legal_spec.specs.Legal.{AreJudged}
 use Rattle.world_replays.proofs.Standing.{first_stands, step_stands, longer_stands}
 use Rattle.legal_replays.proofs.Places.{stands_more, stands_in}
+use Rattle.legal_replays.proofs.Steps.{are_judged}
 use Rattle.legal_replays.proofs.Runs.{batch_by, entry_by, IsNext, batch, entry, asked, Replays, first, more}
 use Rattle.legal_replays.proofs.Growth.{record_of, calls_within}
 
@@ -78,11 +79,11 @@ module _ (labels names : List (List ℕ)) where
   pub entries_are_judged : (above : List ScriptLine) (run : Run) → Replays labels names above run → AreJudged (record_of labels names run)
   entries_are_judged above run replays =
       let stands = run_stands above run replays in
-      record {
+      are_judged (record_of labels names run) (record {
         steps = stands.steps;
         rising = versions_rise above run replays;
         within = λ i e at. stands_in (λ x. x.version ≤ length run.journal) run.history i e stands.versions at;
-      }
+      })
 
   -- and so do the numbers of the calls of each task
   abbrev rising_numbers : Entry → Entry → Type 0

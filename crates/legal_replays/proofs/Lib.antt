@@ -2,6 +2,7 @@ pub mod Places
 pub mod TextRefusals
 pub mod Runs
 pub mod Growth
+pub mod Steps
 pub mod Judged
 pub mod Children
 pub mod Creds

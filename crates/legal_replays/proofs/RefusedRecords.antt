@@ -14,9 +14,11 @@ use Rattle.world_spec.specs.declared.Entry.{Entry}
 use Rattle.world_spec.specs.Steps.{verdict_by_creds}
 use Rattle.record_spec.specs.declared.AskedWhat.TheVariants as AskedWhat
 use Rattle.legal_spec.specs.Calls.{Stands, IsForkOf, IsNumberOf, IsBefore, batch, asked, Descends, itself, child as child_of}
+use Rattle.legal_spec.specs.Entries.{step_at}
 use Rattle.legal_spec.specs.Legal.{IsLegal}
-use Rattle.legal_replays.specs.RefusedRecords.{a_label, c_label, b_pid, c_pid, published, entered, asked_in, by_rule, without_rule, stale_ask, wrong_answer, stale_child, early_wait, early_entry, early_child, swapped_batches, unprivileged_batch, falling_version, swapped_lines, unknown_task, missing_number, name_twice, wrong_reply, wrong_check, missing_check, entry_beyond, ask_beyond, privileged_refusal, own_file_refusal, wrong_rows, wait_below_grandchild, wait_before_fork, wait_for_sibling, wait_for_nobody, RefusedRecords}
+use Rattle.legal_replays.specs.RefusedRecords.{a_label, c_label, b_pid, c_pid, published, entered, asked_in, by_rule, without_rule, stale_ask, wrong_answer, stale_child, early_wait, early_entry, early_child, swapped_batches, unprivileged_batch, falling_version, swapped_lines, unknown_task, missing_number, name_twice, wrong_reply, listing, listed_with, by_same_label, wrong_check, missing_check, entry_beyond, ask_beyond, privileged_refusal, own_file_refusal, wrong_rows, wait_below_grandchild, wait_before_fork, wait_for_sibling, wait_for_nobody, RefusedRecords}
 use Rattle.legal_replays.proofs.Places.{same_some}
+use Rattle.legal_replays.proofs.Steps.{as_judged}
 
 -- the case of the first check; 0 where there is none
 abbrev case_of_first : List Verdict → ℕ
@@ -96,7 +98,7 @@ version : IsLegal falling_version → ⊥
 version legal =
     omega (
       arith,
-      legal.entries.rising 1 2 (entered 0 3 1 TaskCall.Take (Reply.Refused Why.Again)) (entered 1 1 0 TaskCall.Take (Reply.Refused Why.Again)) refl refl (omega arith),
+      (legal.entries 2 (entered 1 1 0 TaskCall.Take (Reply.Refused Why.Again)) refl).rising,
     )
 
 lines : IsLegal swapped_lines → ⊥
@@ -121,19 +123,22 @@ name : IsLegal name_twice → ⊥
 name legal = let wrong : ◌≡◌ {A = ℕ} 0 1 = legal.names.once 1 (omega arith) in omega (arith, wrong)
 
 reply : IsLegal wrong_reply → ⊥
-reply legal = let wrong : ◌≡◌ {A = Reply} Reply.Ok (Reply.Refused Why.Again) = legal.entries.steps.1 in cc
+reply legal = let wrong : ◌≡◌ {A = Reply} Reply.Ok (Reply.Refused Why.Again) = (legal.entries 0 (entered 0 1 0 TaskCall.Take Reply.Ok) refl).reply in cc
+
+judged_checks : (checks : List Verdict) → IsLegal (listed_with checks) → checks ≡ (step_at (listed_with checks) 0 (listing checks)).checks
+judged_checks checks legal = as_judged checks _ (legal.entries 0 (listing checks) refl).checks
 
 check : IsLegal wrong_check → ⊥
 unfolding verdict_by_creds
 check legal =
-    let wrong : ◌≡◌ {A = ℕ} 5 3 = ap case_of_first legal.entries.steps.0 in omega (arith, wrong)
+    let wrong : ◌≡◌ {A = ℕ} 5 3 = ap case_of_first (judged_checks (by_same_label ∷ []) legal) in omega (arith, wrong)
 
 no_check : IsLegal missing_check → ⊥
 unfolding verdict_by_creds
-no_check legal = let wrong : ◌≡◌ {A = ℕ} 0 3 = ap case_of_first legal.entries.steps.0 in omega (arith, wrong)
+no_check legal = let wrong : ◌≡◌ {A = ℕ} 0 3 = ap case_of_first (judged_checks [] legal) in omega (arith, wrong)
 
 entry_within : IsLegal entry_beyond → ⊥
-entry_within legal = omega (arith, legal.entries.within 0 (entered 0 1 1 TaskCall.Take (Reply.Refused Why.Again)) refl)
+entry_within legal = omega (arith, (legal.entries 0 (entered 0 1 1 TaskCall.Take (Reply.Refused Why.Again)) refl).within)
 
 ask_within : IsLegal ask_beyond → ⊥
 ask_within legal = omega (arith, (legal.asked 0 (asked_in 0 1 1 (AskedWhat.Ask without_rule)) refl).0)

@@ -132,19 +132,25 @@ abbrev pub wrong_reply : RunRecord
 wrong_reply = record_of [] (entered 0 1 0 TaskCall.Take Reply.Ok ∷ []) []
 
 -- the first task lists the root with these checks
-abbrev pub listed_with : List Verdict → RunRecord
-listed_with checks = record_of [] (record {
+abbrev pub listing : List Verdict → Entry
+listing checks = record {
   task = 0;
   seq = 1;
   call = Call.Tree (TreeCall.ListDir [] 0);
   version = 0;
   checks = checks;
   reply = Reply.Names 0 [];
-} ∷ []) []
+}
+
+abbrev pub listed_with : List Verdict → RunRecord
+listed_with checks = record_of [] (listing checks ∷ []) []
 
 -- an object call with another check than its step makes, which is case 3, and one without it
+abbrev pub by_same_label : Verdict
+by_same_label = record { allowed = true; case = 5; over = 0; subject = floor; object = floor; modes = read }
+
 abbrev pub wrong_check : RunRecord
-wrong_check = listed_with (record { allowed = true; case = 5; over = 0; subject = floor; object = floor; modes = read } ∷ [])
+wrong_check = listed_with (by_same_label ∷ [])
 
 abbrev pub missing_check : RunRecord
 missing_check = listed_with []

@@ -28,6 +28,7 @@ use Rattle.legal_spec.specs.Calls.{Stands, IsNumberOf, IsCall, batch, entry, ask
 use Rattle.legal_spec.specs.Legal.{IsEachCallOnce, AreJudged, ArePrivileged, IsRefused, IsSo, AreAnswered, HasWaited, IsFresh, IsLegal}
 use Rattle.legal_spec.specs.Lines.{IsAskedOfLine}
 use Rattle.legal_replays.proofs.TextRefusals.{rules_of_file}
+use Rattle.legal_replays.proofs.Steps.{are_judged as entries_are_judged}
 use Rattle.live_table.specs.Lists.{Has, here, there}
 use Rattle.live_table.specs.Batches.{task_of}
 use Rattle.live_table.specs.Machines.{made}
@@ -248,11 +249,11 @@ module _ (full : Bool) (s : Scripted) (left : List ScriptLine) (done : full ≡ 
 
   -- the object calls
   pub are_judged : AreJudged record_of
-  are_judged = record {
+  are_judged = entries_are_judged record_of (record {
     steps = c.steps;
     rising = λ i k e f se sf lt. versions_rise 0 0 i k h e f c.legal se sf lt;
     within = λ i e st. let x = versions_within 0 0 i h e c.legal st in let y = c.recent in omega arith;
-  }
+  })
 
   -- the credentials of a task before a call that saw the first m entries
   creds_seen : (k : ℕ) (L : Life full s j h ls k) (d : Deed) (m : ℕ) → Saw d m → Has d L.calls

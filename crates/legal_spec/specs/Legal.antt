@@ -9,8 +9,7 @@ use Rattle.file_spec.specs.declared.Refusal.{Refusal}
 use Rattle.file_spec.specs.declared.Refusal.TheVariants as Refusal
 use Rattle.file_spec.specs.Writes.{rule_file}
 use Rattle.world_spec.specs.declared.Entry.{Entry}
-use Rattle.world_spec.specs.Worlds.{world_first}
-use Rattle.world_spec.specs.Replays.{version_of, AreSteps, cred_at}
+use Rattle.world_spec.specs.Replays.{version_of, cred_at}
 use Rattle.record_spec.specs.declared.AskedLine.{AskedLine}
 use Rattle.record_spec.specs.declared.AskedWhat.{AskedWhat}
 use Rattle.record_spec.specs.declared.AskedWhat.TheVariants as AskedWhat
@@ -18,6 +17,7 @@ use Rattle.record_spec.specs.declared.RunRecord.{RunRecord}
 use Rattle.replay_spec.specs.Laws.{calls_at}
 use Rattle.replay_spec.specs.Plain.{IsNameTable}
 use Rattle.legal_spec.specs.Calls.{Stands, IsForkOf, IsTask, IsCall, IsBefore, call_count, Descends}
+use Rattle.legal_spec.specs.Entries.{ShowsAs, AreEntries}
 
 -- Each call once and in order.
 pub record IsEachCallOnce (r : RunRecord) : Type 0 where
@@ -36,15 +36,8 @@ pub record IsEachCallOnce (r : RunRecord) : Type 0 where
       → Stands r.history k e → i < k
 
 -- The object calls, which are steps of one world, one after another.
-pub record AreJudged (r : RunRecord) : Type 0 where
-  -- The checks and the reply of each are those of the step of its call, in the world that the entries before it leave
-  -- and in its own version. No call maps a file yet. Where one does, the object that its verdict shows may be any for
-  -- which the mapping fails.
-  pub steps : AreSteps r.journal world_first r.history
-  -- versions never fall
-  pub rising : (i k : ℕ) (e f : Entry) → Stands r.history i e → Stands r.history k f → i < k → e.version ≤ f.version
-  -- none is beyond the last batch
-  pub within : (i : ℕ) (e : Entry) → Stands r.history i e → e.version ≤ length r.journal
+abbrev pub AreJudged : RunRecord → Type 0
+AreJudged = AreEntries ShowsAs
 
 -- Each batch was published by a task that had CAP_MAC_ADMIN effective in the version before it.
 abbrev pub ArePrivileged : RunRecord → Type 0
