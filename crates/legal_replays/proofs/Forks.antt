@@ -4,7 +4,6 @@ use Rattle.smack_base.specs.declared.ids.Pid.{Pid}
 use Rattle.rules_spec.specs.Rulings.{ruling}
 use Rattle.script_spec.specs.declared.Verb.{Verb}
 use Rattle.script_spec.specs.declared.Verb.TheVariants as Verb
-use Rattle.script_spec.specs.declared.TaskVerb.TheVariants as TaskVerb
 use Rattle.script_spec.specs.Lines.{ScriptLine, word_in, verb_in}
 use Rattle.script_spec.specs.Tasks.{change_by, change_of, is_fork, has_exit, forked_name, parents_in, task_names}
 use Rattle.world_spec.specs.declared.TaskCall.TheVariants as TaskCall
@@ -69,19 +68,14 @@ same_parent : (a b : ℕ) → ◌≡◌ {A = Option ℕ} (Some a) (Some b) → a
 same_parent a b is = cc
 
 -- the verb of a line that forks
-pub forks_by : (l : ScriptLine) (verb : Option Verb) → verb_in l ≡ verb → is_fork (change_by verb l) ≡ true → verb_in l ≡ Some (Verb.Task TaskVerb.Fork)
+pub forks_by : (l : ScriptLine) (verb : Option Verb) → verb_in l ≡ verb → is_fork (change_by verb l) ≡ true → verb_in l ≡ Some Verb.Fork
 forks_by l None is forks = cc
 forks_by l (Some Verb.Write) is forks = cc
 forks_by l (Some Verb.Ask) is forks = cc
 forks_by l (Some Verb.Wait) is forks = cc
-forks_by l (Some (Verb.Task TaskVerb.Fork)) is forks = is
-forks_by l (Some (Verb.Task TaskVerb.Exit)) is forks = cc
-forks_by l (Some (Verb.Task TaskVerb.Relabel)) is forks = cc
-forks_by l (Some (Verb.Task TaskVerb.Drop)) is forks = cc
-forks_by l (Some (Verb.Task TaskVerb.Kill)) is forks = cc
-forks_by l (Some (Verb.Task TaskVerb.Take)) is forks = cc
-forks_by l (Some (Verb.Task TaskVerb.Trace)) is forks = cc
-forks_by l (Some (Verb.Tree verb)) is forks = cc
+forks_by l (Some Verb.Fork) is forks = is
+forks_by l (Some Verb.Exit) is forks = cc
+forks_by l (Some (Verb.Call verb)) is forks = cc
 
 same_call : (a b : Call) → ◌≡◌ {A = Option Call} (Some a) (Some b) → a ≡ b
 same_call a b is = cc
@@ -129,7 +123,7 @@ module _ (above : List ScriptLine) (l : ScriptLine) (nothing : is_fork (change_o
       }
 
 -- a line that forks a task
-module _ (labels names : List (List ℕ)) (above : List ScriptLine) (l : ScriptLine) (run : Run) (good : IsGoodLine above l) (in_step : IsInStep above run.world.tasks) (table : IsNameTable names) (rest : List (List ℕ)) (whole : names ≡ task_names (above ++ l ∷ []) ++ rest) (verb : verb_in l ≡ Some (Verb.Task TaskVerb.Fork)) where
+module _ (labels names : List (List ℕ)) (above : List ScriptLine) (l : ScriptLine) (run : Run) (good : IsGoodLine above l) (in_step : IsInStep above run.world.tasks) (table : IsNameTable names) (rest : List (List ℕ)) (whole : names ≡ task_names (above ++ l ∷ []) ++ rest) (verb : verb_in l ≡ Some Verb.Fork) where
   abbrev new_pid : Pid
   new_pid = record { 0 = length (task_names above) }
 
@@ -233,7 +227,7 @@ module _ (labels names : List (List ℕ)) (table : IsNameTable names) where
             let pid = pid_is_next labels names above l run good in_step table rest whole verb in
             let given : call ≡ Call.Task (TaskCall.Fork (record { 0 = length (task_names above) })) =
             same_call call (Call.Task (TaskCall.Fork (record { 0 = length (task_names above) })))
-            (sym of ∙ ap (call_by labels names l) verb ∙ ap (λ (p : Option Pid). of_one (of_one p (λ x. TaskCall.Fork x)) (λ c. Call.Task c)) pid) in
+            (sym of ∙ ap (call_by labels names l) verb ∙ ap (λ (p : Option Pid). of_one p (λ x. Call.Task (TaskCall.Fork x))) pid) in
             fork_entry labels names above l run good in_step table rest whole verb call given forked
         | inr nothing ↦
             quiet_entry above l nothing run.history (entry_by run l call)

@@ -31,7 +31,7 @@ use Rattle.world_spec.specs.Steps.{Stepped, step}
 use Rattle.record_spec.specs.declared.AskedLine.{AskedLine}
 use Rattle.record_spec.specs.declared.AskedWhat.{AskedWhat}
 use Rattle.record_spec.specs.declared.AskedWhat.TheVariants as AskedWhat
-use Rattle.replay_spec.specs.Calls.{pid_in, of_one, task_call, tree_call, file_call, call_by, call_of_line}
+use Rattle.replay_spec.specs.Calls.{pid_in, of_one, made_call, fork_call, file_call, call_by, call_of_line}
 use Rattle.replay_spec.specs.Plain.{IsNameTable}
 use Rattle.replay_spec.specs.Replays.{Run, run_first, number_of_task, with_asked, noted, published, stepped_by, written, modes_in, answered, awaited, entered, after_verb, after_line, run_of}
 use Rattle.legal_spec.specs.Lines.{IsBatchOfLine, IsCallOfLine, IsRefusalOfLine, IsAskedOfLine}
@@ -186,12 +186,10 @@ module _ (labels names : List (List ℕ)) (run : Run) (l : ScriptLine) (is : num
       answered_next (id_of labels (word_in 1 l)) (id_of labels (word_in 2 l)) (modes_in (word_in 3 l)) verb refl refl refl
       (known_label (word_in 1 l) made.0) (known_label (word_in 2 l) made.1) (known_modes (word_in 3 l) made.2)
   verb_next Verb.Wait verb made = awaited_next (pid_in names (word_in 1 l)) verb refl made
-  verb_next (Verb.Task v) verb made =
-      entered_next (of_one (task_call labels names l v) (λ call. Call.Task call)) (ap (call_by labels names l) verb)
-      (made_some (task_call labels names l v) (λ call. Call.Task call) made)
-  verb_next (Verb.Tree v) verb made =
-      entered_next (of_one (tree_call l v) (λ call. Call.Tree call)) (ap (call_by labels names l) verb)
-      (made_some (tree_call l v) (λ call. Call.Tree call) made)
+  verb_next Verb.Fork verb made =
+      entered_next (fork_call names l) (ap (call_by labels names l) verb) (made_some (pid_in names (word_in 1 l)) (λ pid. Call.Task (TaskCall.Fork pid)) made)
+  verb_next Verb.Exit verb made = entered_next (Some (Call.Task TaskCall.Exit)) (ap (call_by labels names l) verb) refl
+  verb_next (Verb.Call v) verb made = entered_next (made_call labels names l v) (ap (call_by labels names l) verb) made
 
 -- how a run comes to be, line by line
 pub data Replays (labels names : List (List ℕ)) : List ScriptLine → Run → Type 0 where

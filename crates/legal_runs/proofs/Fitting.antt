@@ -9,7 +9,6 @@ use Rattle.world_spec.specs.declared.Reply.TheVariants as Reply
 use Rattle.world_spec.specs.declared.Entry.{Entry}
 use Rattle.script_spec.specs.declared.Verb.{Verb}
 use Rattle.script_spec.specs.declared.Verb.TheVariants as Verb
-use Rattle.script_spec.specs.declared.TaskVerb.TheVariants as TaskVerb
 use Rattle.script_spec.specs.Lines.{ScriptLine, word_in, verb_in, table_of}
 use Rattle.script_spec.specs.Tasks.{change_by, change_of, forked_name, task_names}
 use Rattle.record_spec.specs.declared.AskedLine.{AskedLine}
@@ -52,10 +51,10 @@ line_in (entered e n ∷ ds) a m (there h) = line_in ds a m h
 line_in (batched n b i ∷ ds) a m (there h) = line_in ds a m h
 
 asked_no_fork : (labels names : List (List ℕ)) (l : ScriptLine) (what : AskedWhat) → IsAskedOfLine labels names l what
-    → verb_in l ≡ Some (Verb.Task TaskVerb.Fork) → ⊥
-asked_no_fork labels names l (AskedWhat.Ask v) is verb = absurd (let x : ◌≡◌ {A = Option Verb} (Some Verb.Ask) (Some (Verb.Task TaskVerb.Fork)) = sym is.0 ∙ verb in cc)
-asked_no_fork labels names l (AskedWhat.Refused file fault) is verb = absurd (let x : ◌≡◌ {A = Option Verb} (Some Verb.Write) (Some (Verb.Task TaskVerb.Fork)) = sym is.0 ∙ verb in cc)
-asked_no_fork labels names l (AskedWhat.Wait pid) is verb = absurd (let x : ◌≡◌ {A = Option Verb} (Some Verb.Wait) (Some (Verb.Task TaskVerb.Fork)) = sym is.0 ∙ verb in cc)
+    → verb_in l ≡ Some Verb.Fork → ⊥
+asked_no_fork labels names l (AskedWhat.Ask v) is verb = absurd (let x : ◌≡◌ {A = Option Verb} (Some Verb.Ask) (Some Verb.Fork) = sym is.0 ∙ verb in cc)
+asked_no_fork labels names l (AskedWhat.Refused file fault) is verb = absurd (let x : ◌≡◌ {A = Option Verb} (Some Verb.Write) (Some Verb.Fork) = sym is.0 ∙ verb in cc)
+asked_no_fork labels names l (AskedWhat.Wait pid) is verb = absurd (let x : ◌≡◌ {A = Option Verb} (Some Verb.Wait) (Some Verb.Fork) = sym is.0 ∙ verb in cc)
 
 -- each fork of a history made a task
 abbrev pub ForksMade : List Entry → Type 0
@@ -119,14 +118,14 @@ module _ (lines : List ScriptLine) (good : AreGoodLines [] lines) (table : IsNam
           ∙ append_assoc (task_names F.front) (word_in 1 F.line ∷ []) rest.0)) in
           let found = next_pid names (task_names F.front) (word_in 1 F.line) rest.0 whole table in
           ap (call_by (table_of lines) names F.line) F.verb
-          ∙ ap (λ p. of_one (of_one p (λ x. TaskCall.Fork x)) (λ c. Call.Task c)) (found ∙ ap (λ n. Some (record { 0 = n })) F.many)
+          ∙ ap (λ p. of_one p (λ x. Call.Task (TaskCall.Fork x))) (found ∙ ap (λ n. Some (record { 0 = n })) F.many)
 
       by : (L : LifeOf k) (d : Deed) → Has d L.calls → Fits (scripted lines) k F.line.seq d F.line → (i : ℕ) × IsNumberOf h i (record { 0 = pid })
       by L (entered e n) u f =
           let st = at_of w.journal h k L.calls (entered e n) L.at u in
           let call = same_call e.call (Call.Task (TaskCall.Fork (record { 0 = pid }))) (sym f.2 ∙ line_forks) in
           let child = forked n e (record { 0 = pid }) st call in (child.0, inr (n, e, st, (call, child.1)))
-      by L (batched n b m) u f = absurd (let x : ◌≡◌ {A = Option Verb} (Some Verb.Write) (Some (Verb.Task TaskVerb.Fork)) = sym f.2.0 ∙ F.verb in cc)
+      by L (batched n b m) u f = absurd (let x : ◌≡◌ {A = Option Verb} (Some Verb.Write) (Some Verb.Fork) = sym f.2.0 ∙ F.verb in cc)
       by L (answered a m) u f = absurd (asked_no_fork (table_of lines) names F.line a.what f.2 F.verb)
 
   -- each pid of the script has a number

@@ -7,7 +7,6 @@ use Rattle.smack_base.specs.Modes.{modes_of}
 use Rattle.text_spec.specs.Names.{place_of, has_name}
 use Rattle.script_spec.specs.declared.Verb.{Verb}
 use Rattle.script_spec.specs.declared.Verb.TheVariants as Verb
-use Rattle.script_spec.specs.declared.TaskVerb.TheVariants as TaskVerb
 use Rattle.script_spec.specs.Words.{word_at}
 use Rattle.script_spec.specs.Lines.{ScriptLine, word_in, table_of}
 use Rattle.script_spec.specs.Tasks.{Tasks, TaskChange, Forks, Exits, Awaits, Keeps, change_by, change_of, forked_name, is_wait_for, task_names, tasks_of, latest_child, is_pid, is_latest_child}
@@ -184,14 +183,9 @@ module _ (above : List ScriptLine) (l : ScriptLine) (good : IsGoodLine above l) 
   there_by Verb.Write wait = tt
   there_by Verb.Ask wait = tt
   there_by Verb.Wait wait = ltb-true (place_of tasks.names name) (length tasks.names) (child_has_name above l.task name (latest wait))
-  there_by (Verb.Task TaskVerb.Fork) wait = tt
-  there_by (Verb.Task TaskVerb.Exit) wait = tt
-  there_by (Verb.Task TaskVerb.Relabel) wait = tt
-  there_by (Verb.Task TaskVerb.Drop) wait = tt
-  there_by (Verb.Task TaskVerb.Kill) wait = tt
-  there_by (Verb.Task TaskVerb.Take) wait = tt
-  there_by (Verb.Task TaskVerb.Trace) wait = tt
-  there_by (Verb.Tree verb) wait = tt
+  there_by Verb.Fork wait = tt
+  there_by Verb.Exit wait = tt
+  there_by (Verb.Call verb) wait = tt
 
   wait_there : IsWaitThere tasks (change_of l)
   wait_there = subst (λ v. IsWaitThere tasks (change_by v l)) (sym (good_verb above l good)) (there_by good.verb good.wait)
@@ -203,17 +197,12 @@ module _ (above : List ScriptLine) (l : ScriptLine) (good : IsGoodLine above l) 
     other_by Verb.Ask wait = kept tasks p
     other_by Verb.Wait wait =
         others_left tasks.awaited (after Verb.Wait).awaited (place_of tasks.names name) tasks.parents l.task p (λ n low. refl) (latest wait) apart
-    other_by (Verb.Task TaskVerb.Fork) wait =
-        ap (λ (t : Bool). if t && not ((after (Verb.Task TaskVerb.Fork)).awaited (length (l.task ∷ tasks.parents)))
-        then length (l.task ∷ tasks.parents) ∷ children (after (Verb.Task TaskVerb.Fork)).awaited tasks.parents p
-        else children (after (Verb.Task TaskVerb.Fork)).awaited tasks.parents p) apart ∙ kept tasks p
-    other_by (Verb.Task TaskVerb.Exit) wait = kept tasks p
-    other_by (Verb.Task TaskVerb.Relabel) wait = kept tasks p
-    other_by (Verb.Task TaskVerb.Drop) wait = kept tasks p
-    other_by (Verb.Task TaskVerb.Kill) wait = kept tasks p
-    other_by (Verb.Task TaskVerb.Take) wait = kept tasks p
-    other_by (Verb.Task TaskVerb.Trace) wait = kept tasks p
-    other_by (Verb.Tree verb) wait = kept tasks p
+    other_by Verb.Fork wait =
+        ap (λ (t : Bool). if t && not ((after Verb.Fork).awaited (length (l.task ∷ tasks.parents)))
+        then length (l.task ∷ tasks.parents) ∷ children (after Verb.Fork).awaited tasks.parents p
+        else children (after Verb.Fork).awaited tasks.parents p) apart ∙ kept tasks p
+    other_by Verb.Exit wait = kept tasks p
+    other_by (Verb.Call verb) wait = kept tasks p
 
     other_open : open_in (behind_line above l) p ≡ open_in tasks p
     other_open = subst (λ v. open_in (tasks_after tasks l.task (change_by v l)) p ≡ open_in tasks p) (sym (good_verb above l good))
@@ -230,7 +219,7 @@ module _ (above : List ScriptLine) (l : ScriptLine) (good : IsGoodLine above l) 
     keeps : Some (open_in tasks l.task) ≡ Some (children (λ t. tasks.awaited t || false) tasks.parents l.task)
     keeps = ap (λ (o : List ℕ). Some o) (sym (kept tasks l.task))
 
-    forks : IsSplit (Verb.Task TaskVerb.Fork) → IsOpen (Verb.Task TaskVerb.Fork)
+    forks : IsSplit Verb.Fork → IsOpen Verb.Fork
     forks split =
         let n = length (l.task ∷ tasks.parents) in
         let many : length tasks.names ≡ n = omega (arith, parents_many above) in
@@ -243,8 +232,8 @@ module _ (above : List ScriptLine) (l : ScriptLine) (good : IsGoodLine above l) 
         ap (with_open (open_in tasks l.task)) found
         ∙ (ap (λ (t : Bool). if t then None else Some (n ∷ open_in tasks l.task)) new
         ∙ (ap (λ (o : List ℕ). Some (n ∷ o)) (sym (kept tasks l.task))
-        ∙ sym (ap (λ (t : Bool). Some (if t then n ∷ children (after (Verb.Task TaskVerb.Fork)).awaited tasks.parents l.task
-        else children (after (Verb.Task TaskVerb.Fork)).awaited tasks.parents l.task)) test)))
+        ∙ sym (ap (λ (t : Bool). Some (if t then n ∷ children (after Verb.Fork).awaited tasks.parents l.task
+        else children (after Verb.Fork).awaited tasks.parents l.task)) test)))
 
     closes : IsGoodWait Verb.Wait → IsSplit Verb.Wait → IsOpen Verb.Wait
     closes wait split =
@@ -263,14 +252,9 @@ module _ (above : List ScriptLine) (l : ScriptLine) (good : IsGoodLine above l) 
     own_by Verb.Write wait split = keeps
     own_by Verb.Ask wait split = keeps
     own_by Verb.Wait wait split = closes wait split
-    own_by (Verb.Task TaskVerb.Fork) wait split = forks split
-    own_by (Verb.Task TaskVerb.Exit) wait split = keeps
-    own_by (Verb.Task TaskVerb.Relabel) wait split = keeps
-    own_by (Verb.Task TaskVerb.Drop) wait split = keeps
-    own_by (Verb.Task TaskVerb.Kill) wait split = keeps
-    own_by (Verb.Task TaskVerb.Take) wait split = keeps
-    own_by (Verb.Task TaskVerb.Trace) wait split = keeps
-    own_by (Verb.Tree verb) wait split = keeps
+    own_by Verb.Fork wait split = forks split
+    own_by Verb.Exit wait split = keeps
+    own_by (Verb.Call verb) wait split = keeps
 
     own_open : names ≡ tasks.names ++ (forked_name (change_of l) ++ rest)
         → open_after names (open_in tasks l.task) (change_of l) ≡ Some (open_in (behind_line above l) l.task)
@@ -288,8 +272,9 @@ words_known labels names l Verb.Ask made =
     let modes = ap (λ (t : Bool). is_some (if t then Some (modes_of (word_in 3 l)) else None)) made.2 in
     and_from _ _ (found_label labels (word_in 1 l) made.0) (and_from _ _ (found_label labels (word_in 2 l) made.1) modes)
 words_known labels names l Verb.Wait made = made
-words_known labels names l (Verb.Task verb) made = made
-words_known labels names l (Verb.Tree verb) made = made
+words_known labels names l Verb.Fork made = made
+words_known labels names l Verb.Exit made = refl
+words_known labels names l (Verb.Call verb) made = made
 
 module _ (lines : List ScriptLine) (table : IsNameTable (task_names lines)) (p : ℕ) where
   abbrev s : Scripted

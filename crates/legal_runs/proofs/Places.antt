@@ -10,22 +10,15 @@ use Rattle.file_spec.specs.declared.Refusal.{Refusal}
 use Rattle.file_spec.specs.declared.Compiled.{Compiled}
 use Rattle.file_spec.specs.declared.Compiled.TheVariants as Compiled
 use Rattle.file_spec.specs.Files.{compiled}
-use Rattle.world_spec.specs.declared.TaskCall.{TaskCall}
 use Rattle.world_spec.specs.declared.TaskCall.TheVariants as TaskCall
-use Rattle.world_spec.specs.declared.TreeCall.{TreeCall}
 use Rattle.world_spec.specs.declared.Call.TheVariants as Call
 use Rattle.script_spec.specs.declared.Verb.{Verb}
 use Rattle.script_spec.specs.declared.Verb.TheVariants as Verb
-use Rattle.script_spec.specs.declared.TaskVerb.TheVariants as TaskVerb
-use Rattle.script_spec.specs.declared.TraceWay.{TraceWay}
-use Rattle.script_spec.specs.declared.TraceWay.TheVariants as TraceWay
-use Rattle.script_spec.specs.Words.{cap_of, signal_of, trace_way_of}
-use Rattle.text_spec.specs.Names.{id_of}
 use Rattle.script_spec.specs.Lines.{ScriptLine, word_in, verb_in}
 use Rattle.script_spec.specs.Tasks.{change_by, change_of, forked_name, is_exit, has_exit, task_names}
-use Rattle.replay_spec.specs.Calls.{pid_in, of_one, of_two, traced, tree_call, file_call, call_by, call_of_line}
+use Rattle.replay_spec.specs.Calls.{pid_in, of_one, file_call, call_by, call_of_line}
 use Rattle.replay_spec.specs.Plain.{IsNameTable}
-use Rattle.replayed_records.proofs.InStep.{next_pid}
+use Rattle.replayed_records.proofs.InStep.{made_quiet, next_pid}
 use Rattle.plain_records.proofs.GoodLines.{IsGoodLine, AreGoodLines}
 use Rattle.plain_records.proofs.Tasks.{names_behind}
 use Rattle.legal_replays.proofs.ForkLines.{fork_line}
@@ -181,30 +174,15 @@ one_fork_line labels names lines pid table whole a x after b y behind is it fx f
 
 -- Exits
 
-one_other : {A : Type 0} (a : Option A) (make : A → TaskCall) → ((x : A) → make x ≡ TaskCall.Exit → ⊥)
-    → of_one (of_one a make) (λ c. Call.Task c) ≡ Some (Call.Task TaskCall.Exit) → ⊥
-one_other None make other is = cc
-one_other (Some x) make other is = other x cc
-
-two_other : {A B : Type 0} (a : Option A) (b : Option B) (make : A → B → TaskCall) → ((x : A) (y : B) → make x y ≡ TaskCall.Exit → ⊥)
-    → of_one (of_two a b make) (λ c. Call.Task c) ≡ Some (Call.Task TaskCall.Exit) → ⊥
-two_other None b make other is = cc
-two_other (Some x) None make other is = cc
-two_other (Some x) (Some y) make other is = other x y cc
-
-trace_other : (way : TraceWay) (target : Pid) → traced way target ≡ TaskCall.Exit → ⊥
-trace_other TraceWay.Read target is = cc
-trace_other TraceWay.Attach target is = cc
-
 file_other : (made : Result Compiled Refusal) → of_one (file_call made) (λ c. Call.Task c) ≡ Some (Call.Task TaskCall.Exit) → ⊥
 file_other (Ok (Compiled.Rules ops)) is = cc
 file_other (Ok (Compiled.SelfRules rules)) is = cc
 file_other (Ok (Compiled.Relabels list)) is = cc
 file_other (Err fault) is = cc
 
-tree_other : (call : Option TreeCall) → of_one call (λ c. Call.Tree c) ≡ Some (Call.Task TaskCall.Exit) → ⊥
-tree_other None is = cc
-tree_other (Some call) is = cc
+fork_other : (found : Option Pid) → of_one found (λ pid. Call.Task (TaskCall.Fork pid)) ≡ Some (Call.Task TaskCall.Exit) → ⊥
+fork_other None is = cc
+fork_other (Some pid) is = cc
 
 module _ (labels names : List (List ℕ)) (l : ScriptLine) where
   exit_verb : (verb : Option Verb) → call_by labels names l verb ≡ Some (Call.Task TaskCall.Exit) → is_exit (change_by verb l) ≡ true
@@ -212,15 +190,9 @@ module _ (labels names : List (List ℕ)) (l : ScriptLine) where
   exit_verb (Some Verb.Write) is = absurd (file_other (compiled labels (word_in 1 l) l.text.bytes) is)
   exit_verb (Some Verb.Ask) is = cc
   exit_verb (Some Verb.Wait) is = cc
-  exit_verb (Some (Verb.Task TaskVerb.Fork)) is = absurd (one_other (pid_in names (word_in 1 l)) _ (λ x e. cc) is)
-  exit_verb (Some (Verb.Task TaskVerb.Exit)) is = refl
-  exit_verb (Some (Verb.Task TaskVerb.Relabel)) is = absurd (one_other (id_of labels (word_in 1 l)) _ (λ x e. cc) is)
-  exit_verb (Some (Verb.Task TaskVerb.Drop)) is = absurd (one_other (cap_of (word_in 1 l)) _ (λ x e. cc) is)
-  exit_verb (Some (Verb.Task TaskVerb.Kill)) is = absurd (two_other (pid_in names (word_in 1 l)) (signal_of (word_in 2 l)) _ (λ x y e. cc) is)
-  exit_verb (Some (Verb.Task TaskVerb.Take)) is = cc
-  exit_verb (Some (Verb.Task TaskVerb.Trace)) is =
-      absurd (two_other (trace_way_of (word_in 1 l)) (pid_in names (word_in 2 l)) traced (λ way target e. trace_other way target e) is)
-  exit_verb (Some (Verb.Tree verb)) is = absurd (tree_other (tree_call l verb) is)
+  exit_verb (Some Verb.Fork) is = absurd (fork_other (pid_in names (word_in 1 l)) is)
+  exit_verb (Some Verb.Exit) is = refl
+  exit_verb (Some (Verb.Call verb)) is = absurd (made_quiet labels names l verb (Call.Task TaskCall.Exit) is)
 
   -- a line that ends its task has the verb for it
   pub exit_line : call_of_line labels names l ≡ Some (Call.Task TaskCall.Exit) → is_exit (change_of l) ≡ true

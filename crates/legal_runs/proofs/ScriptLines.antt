@@ -4,7 +4,6 @@ use Rattle.std.specs.Prelude.{cond}
 use Rattle.std.proofs.lemmas.Bool.{cases_Bool, leb-true, leb-false, eqb-true}
 use Rattle.std.proofs.lemmas.List.Sums.{sum_by-append}
 use Rattle.script_spec.specs.declared.Verb.TheVariants as Verb
-use Rattle.script_spec.specs.declared.TaskVerb.TheVariants as TaskVerb
 use Rattle.script_spec.specs.Lines.{ScriptLine, verb_in}
 use Rattle.script_spec.specs.Tasks.{TaskChange, Forks, Exits, Awaits, Keeps, change_of, forked_name, is_fork, calls_by, task_names}
 use Rattle.live_table.specs.Lists.{Has, here, there}
@@ -86,7 +85,7 @@ pub record ForkLine (lines : List ScriptLine) (pid : ℕ) : Type 0 where
   pub is : lines ≡ (front ++ line ∷ []) ++ behind
   pub good : IsGoodLine front line
   pub many : length (task_names front) ≡ pid
-  pub verb : verb_in line ≡ Some (Verb.Task TaskVerb.Fork)
+  pub verb : verb_in line ≡ Some Verb.Fork
 
 pub fork_line_of : (pid : ℕ) (above ls : List ScriptLine) → AreGoodLines above ls → length (task_names above) ≤ pid
     → pid < length (task_names (above ++ ls)) → ForkLine (above ++ ls) pid

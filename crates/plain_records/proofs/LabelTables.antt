@@ -43,8 +43,9 @@ behind_labels : (verb : Verb) (l : ScriptLine) → AllByRecursion IsLabel (text_
 behind_labels Verb.Write l = file_labels (file_of (word_in 1 l)) l.text.bytes
 behind_labels Verb.Ask l = tt
 behind_labels Verb.Wait l = tt
-behind_labels (Verb.Task verb) l = tt
-behind_labels (Verb.Tree verb) l = tt
+behind_labels Verb.Fork l = tt
+behind_labels Verb.Exit l = tt
+behind_labels (Verb.Call verb) l = tt
 
 -- the words of kinds that stand for labels are labels
 kind_labels : (before : List Placed) (ds : List WordKind) (ws : List Placed) → AreOfKinds before ds ws → AllByRecursion IsLabel (label_words ds ws)

@@ -24,7 +24,7 @@ use Rattle.world_spec.specs.Worlds.{creds_of}
 use Rattle.record_spec.specs.declared.AskedLine.{AskedLine}
 use Rattle.record_spec.specs.declared.AskedWhat.{AskedWhat}
 use Rattle.record_spec.specs.declared.AskedWhat.TheVariants as AskedWhat
-use Rattle.replay_spec.specs.Calls.{pid_in, of_one, task_call, tree_call, file_call, call_by}
+use Rattle.replay_spec.specs.Calls.{pid_in, of_one, made_call, fork_call, file_call, call_by}
 use Rattle.replay_spec.specs.Plain.{HasId, HasPid, IsPlainOp, IsPlainBatch, IsPlainCall, IsPlainEntry, IsPlainWhat, IsPlainAsked}
 use Rattle.replay_spec.specs.Replays.{Run, run_first, number_of_task, is_before, with_asked, noted, published, stepped_by, written, answered, awaited, entered, modes_in, after_verb, after_line, run_of}
 use Rattle.replay_spec.proofs.KnownLabels.{known_id}
@@ -133,12 +133,12 @@ module _ (table names : List (List ℕ)) (first : 0 < length table) where
       (known_id table (word_in 1 l)) (known_id table (word_in 2 l))
   after_verb_is_plain run l (Some Verb.Wait) is named plain =
       awaited_is_plain run l (pid_in names (word_in 1 l)) plain (known_pid names (word_in 1 l))
-  after_verb_is_plain run l (Some (Verb.Task verb)) is named plain =
-      entered_is_plain run l (of_one (task_call table names l verb) (λ call. Call.Task call)) plain
-      (λ call gives. record { line = l; gives = ap (call_by table names l) is ∙ gives })
-  after_verb_is_plain run l (Some (Verb.Tree verb)) is named plain =
-      entered_is_plain run l (of_one (tree_call l verb) (λ call. Call.Tree call)) plain
-      (λ call gives. record { line = l; gives = ap (call_by table names l) is ∙ gives })
+  after_verb_is_plain run l (Some Verb.Fork) is named plain =
+      entered_is_plain run l (fork_call names l) plain (λ call gives. record { line = l; gives = ap (call_by table names l) is ∙ gives })
+  after_verb_is_plain run l (Some Verb.Exit) is named plain =
+      stepped_is_plain run l (Call.Task TaskCall.Exit) plain (record { line = l; gives = ap (call_by table names l) is })
+  after_verb_is_plain run l (Some (Verb.Call verb)) is named plain =
+      entered_is_plain run l (made_call table names l verb) plain (λ call gives. record { line = l; gives = ap (call_by table names l) is ∙ gives })
 
   -- lines whose writes name files keep a run plain
   calls_keep_plain : (lines : List ScriptLine) → AllByRecursion HasFileName lines → (run : Run) → IsPlainRun table names run

@@ -7,7 +7,6 @@ use Rattle.text_spec.specs.Names.{place_of, has_name}
 use Rattle.label_table.proofs.LabelTables.{once_with_new}
 use Rattle.script_spec.specs.declared.Verb.{Verb}
 use Rattle.script_spec.specs.declared.Verb.TheVariants as Verb
-use Rattle.script_spec.specs.declared.TaskVerb.TheVariants as TaskVerb
 use Rattle.script_spec.specs.Words.{is_task_name, kinds_of}
 use Rattle.script_spec.specs.Lines.{ScriptLine}
 use Rattle.script_spec.specs.Tasks.{change_by, change_of, forked_name, task_names, tasks_of}
@@ -51,19 +50,14 @@ none_forked names table = subst IsNameTable (sym (append-nil names)) table
 forked_are_new : (above : List ScriptLine) (l : ScriptLine) (first : Placed) (behind : List Placed) (verb : Verb) → l.words ≡ first ∷ behind
     → AreOfKinds (first ∷ []) (kinds_of verb) behind → is_name_good (tasks_of above) verb behind ≡ true → IsNameTable (task_names above)
     → IsNameTable (task_names above ++ forked_name (change_by (Some verb) l))
+forked_are_new above l first [] Verb.Fork words kinds name table = absurd kinds
+forked_are_new above l first (w ∷ ws) Verb.Fork words kinds name table =
+    rw words (with_task (task_names above) w.bytes table (is_new (has_name (task_names above) w.bytes) name) kinds.0)
 forked_are_new above l first behind Verb.Write words kinds name table = none_forked (task_names above) table
 forked_are_new above l first behind Verb.Ask words kinds name table = none_forked (task_names above) table
 forked_are_new above l first behind Verb.Wait words kinds name table = none_forked (task_names above) table
-forked_are_new above l first [] (Verb.Task TaskVerb.Fork) words kinds name table = absurd kinds
-forked_are_new above l first (w ∷ ws) (Verb.Task TaskVerb.Fork) words kinds name table =
-    rw words (with_task (task_names above) w.bytes table (is_new (has_name (task_names above) w.bytes) name) kinds.0)
-forked_are_new above l first behind (Verb.Task TaskVerb.Exit) words kinds name table = none_forked (task_names above) table
-forked_are_new above l first behind (Verb.Task TaskVerb.Relabel) words kinds name table = none_forked (task_names above) table
-forked_are_new above l first behind (Verb.Task TaskVerb.Drop) words kinds name table = none_forked (task_names above) table
-forked_are_new above l first behind (Verb.Task TaskVerb.Kill) words kinds name table = none_forked (task_names above) table
-forked_are_new above l first behind (Verb.Task TaskVerb.Take) words kinds name table = none_forked (task_names above) table
-forked_are_new above l first behind (Verb.Task TaskVerb.Trace) words kinds name table = none_forked (task_names above) table
-forked_are_new above l first behind (Verb.Tree verb) words kinds name table = none_forked (task_names above) table
+forked_are_new above l first behind Verb.Exit words kinds name table = none_forked (task_names above) table
+forked_are_new above l first behind (Verb.Call verb) words kinds name table = none_forked (task_names above) table
 
 names_grow : (above : List ScriptLine) (l : ScriptLine) → IsGoodLine above l → IsNameTable (task_names above) → IsNameTable (task_names (above ++ l ∷ []))
 names_grow above l good table =

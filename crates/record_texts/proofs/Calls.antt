@@ -83,7 +83,7 @@ module _ (labels names : List (List ℕ)) (table : IsLabelTable labels) (tasks :
   -- a row for each call
   read_is_told : (call : Call) → IsReadCall labels names call → IsToldCall labels names call
   read_is_told (Call.Task (TaskCall.Fork pid)) read = record {
-    again = ap (λ o. of_one (of_one o (λ p. TaskCall.Fork p)) (λ c. Call.Task c)) (task_again names tasks pid read);
+    again = ap (λ o. of_one o (λ p. Call.Task (TaskCall.Fork p))) (task_again names tasks pid read);
     verb = refl;
     words = (named_clean names tasks pid read, tt);
   }

@@ -14,6 +14,8 @@ use Rattle.script_spec.specs.declared.TraceWay.{TraceWay}
 use Rattle.script_spec.specs.declared.TraceWay.TheVariants as TraceWay
 use Rattle.script_spec.specs.declared.TreeVerb.{TreeVerb}
 use Rattle.script_spec.specs.declared.TreeVerb.TheVariants as TreeVerb
+use Rattle.script_spec.specs.declared.CallVerb.{CallVerb}
+use Rattle.script_spec.specs.declared.CallVerb.TheVariants as CallVerb
 use Rattle.script_spec.specs.declared.Verb.{Verb}
 use Rattle.script_spec.specs.declared.Verb.TheVariants as Verb
 use Rattle.script_spec.specs.Words.{number_of, signal_of}
@@ -24,7 +26,7 @@ use Rattle.world_spec.specs.declared.TreeCall.{TreeCall}
 use Rattle.world_spec.specs.declared.TreeCall.TheVariants as TreeCall
 use Rattle.world_spec.specs.declared.Call.{Call}
 use Rattle.world_spec.specs.declared.Call.TheVariants as Call
-use Rattle.replay_spec.specs.Calls.{path_in, pid_in, of_one, of_two, traced, task_call, tree_call, file_call, call_by}
+use Rattle.replay_spec.specs.Calls.{path_in, pid_in, of_one, of_two, traced, task_call, tree_call, made_call, file_call, call_by}
 use Rattle.replay_spec.specs.Plain.{HasId, HasPid, IsPlainCall}
 use Rattle.replay_spec.proofs.KnownLabels.{IsKnownPair, IsKnownCompiled, known_id, compiled_known}
 
@@ -86,8 +88,6 @@ traced_is_read labels names TraceWay.Attach pid known = known
 -- a call that a line makes is made of such words
 task_is_read : (labels names : List (List ℕ)) (l : ScriptLine) (verb : TaskVerb) (call : TaskCall) → task_call labels names l verb ≡ Some call
     → IsReadTask labels names call
-task_is_read labels names l TaskVerb.Fork call is = of_one_holds (IsReadTask labels names) _ _ call (known_pid names (word_in 1 l)) is
-task_is_read labels names l TaskVerb.Exit call is = of_none_holds (IsReadTask labels names) TaskCall.Exit call tt is
 task_is_read labels names l TaskVerb.Relabel call is = of_one_holds (IsReadTask labels names) _ _ call (known_id labels (word_in 1 l)) is
 task_is_read labels names l TaskVerb.Drop call is = of_one_holds (IsReadTask labels names) _ _ call (λ cap told. tt) is
 task_is_read labels names l TaskVerb.Kill call is =
@@ -100,6 +100,13 @@ tree_is_read : (l : ScriptLine) (verb : TreeVerb) (call : TreeCall) → tree_cal
 tree_is_read l TreeVerb.Create call is = of_one_holds IsReadTree _ _ call (λ path told. (word_in 1 l, told)) is
 tree_is_read l TreeVerb.Unlink call is = of_one_holds IsReadTree _ _ call (λ path told. (word_in 1 l, told)) is
 tree_is_read l TreeVerb.List call is = of_two_holds IsReadTree _ _ _ call (λ path at told number. ((word_in 1 l, told), (word_in 2 l, number))) is
+
+call_is_read : (labels names : List (List ℕ)) (l : ScriptLine) (verb : CallVerb) (call : Call) → made_call labels names l verb ≡ Some call
+    → IsReadCall labels names call
+call_is_read labels names l (CallVerb.Task verb) call is =
+    of_one_holds (IsReadCall labels names) (task_call labels names l verb) (λ c. Call.Task c) call (task_is_read labels names l verb) is
+call_is_read labels names l (CallVerb.Tree verb) call is =
+    of_one_holds (IsReadCall labels names) (tree_call l verb) (λ c. Call.Tree c) call (tree_is_read l verb) is
 
 file_is_read : (labels names : List (List ℕ)) (made : Result Compiled Refusal) (call : TaskCall)
     → ((c : Compiled) → made ≡ Ok c → IsKnownCompiled labels c) → file_call made ≡ Some call → IsReadTask labels names call
@@ -118,10 +125,10 @@ by_is_read labels names l (Some Verb.Write) call is =
     (λ c told. file_is_read labels names (compiled labels (word_in 1 l) l.text.bytes) c (compiled_known labels (word_in 1 l) l.text.bytes) told) is
 by_is_read labels names l (Some Verb.Ask) call is = absurd cc
 by_is_read labels names l (Some Verb.Wait) call is = absurd cc
-by_is_read labels names l (Some (Verb.Task verb)) call is =
-    of_one_holds (IsReadCall labels names) (task_call labels names l verb) (λ c. Call.Task c) call (task_is_read labels names l verb) is
-by_is_read labels names l (Some (Verb.Tree verb)) call is =
-    of_one_holds (IsReadCall labels names) (tree_call l verb) (λ c. Call.Tree c) call (tree_is_read l verb) is
+by_is_read labels names l (Some Verb.Fork) call is =
+    of_one_holds (IsReadCall labels names) (pid_in names (word_in 1 l)) (λ pid. Call.Task (TaskCall.Fork pid)) call (known_pid names (word_in 1 l)) is
+by_is_read labels names l (Some Verb.Exit) call is = of_none_holds (IsReadCall labels names) (Call.Task TaskCall.Exit) call tt is
+by_is_read labels names l (Some (Verb.Call verb)) call is = call_is_read labels names l verb call is
 
 pub plain_is_read : (labels names : List (List ℕ)) (call : Call) → IsPlainCall labels names call → IsReadCall labels names call
 plain_is_read labels names call plain = by_is_read labels names plain.line (verb_in plain.line) call plain.gives

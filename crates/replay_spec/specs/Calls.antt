@@ -14,6 +14,8 @@ use Rattle.script_spec.specs.declared.TraceWay.{TraceWay}
 use Rattle.script_spec.specs.declared.TraceWay.TheVariants as TraceWay
 use Rattle.script_spec.specs.declared.TreeVerb.{TreeVerb}
 use Rattle.script_spec.specs.declared.TreeVerb.TheVariants as TreeVerb
+use Rattle.script_spec.specs.declared.CallVerb.{CallVerb}
+use Rattle.script_spec.specs.declared.CallVerb.TheVariants as CallVerb
 use Rattle.script_spec.specs.declared.Verb.{Verb}
 use Rattle.script_spec.specs.declared.Verb.TheVariants as Verb
 use Rattle.script_spec.specs.Words.{cap_of, number_of, signal_of, trace_way_of}
@@ -48,8 +50,6 @@ traced TraceWay.Attach pid = TaskCall.TraceAttach pid
 
 -- the call that a line makes on tasks, by the labels and the names of the tasks, where its words are of their kinds
 abbrev pub task_call : List (List ℕ) → List (List ℕ) → ScriptLine → TaskVerb → Option TaskCall
-task_call labels names l TaskVerb.Fork = of_one (pid_in names (word_in 1 l)) (λ pid. TaskCall.Fork pid)
-task_call labels names l TaskVerb.Exit = Some TaskCall.Exit
 task_call labels names l TaskVerb.Relabel = of_one (id_of labels (word_in 1 l)) (λ label. TaskCall.Relabel label)
 task_call labels names l TaskVerb.Drop = of_one (cap_of (word_in 1 l)) (λ cap. TaskCall.DropCap cap)
 task_call labels names l TaskVerb.Kill = of_two (pid_in names (word_in 1 l)) (signal_of (word_in 2 l)) (λ pid sig. TaskCall.Kill pid sig)
@@ -61,6 +61,15 @@ abbrev pub tree_call : ScriptLine → TreeVerb → Option TreeCall
 tree_call l TreeVerb.Create = of_one (path_in (word_in 1 l)) (λ path. TreeCall.Create path)
 tree_call l TreeVerb.Unlink = of_one (path_in (word_in 1 l)) (λ path. TreeCall.Unlink path)
 tree_call l TreeVerb.List = of_two (path_in (word_in 1 l)) (number_of (word_in 2 l)) (λ path at. TreeCall.ListDir path at)
+
+-- the call of a verb of object calls
+abbrev pub made_call : List (List ℕ) → List (List ℕ) → ScriptLine → CallVerb → Option Call
+made_call labels names l (CallVerb.Task verb) = of_one (task_call labels names l verb) (λ call. Call.Task call)
+made_call labels names l (CallVerb.Tree verb) = of_one (tree_call l verb) (λ call. Call.Tree call)
+
+-- the fork of a line, where its word has a name
+abbrev pub fork_call : List (List ℕ) → ScriptLine → Option Call
+fork_call names l = of_one (pid_in names (word_in 1 l)) (λ pid. Call.Task (TaskCall.Fork pid))
 
 -- the call on the writing task that a text is, where its file accepts it
 abbrev pub file_call : Result Compiled Refusal → Option TaskCall
@@ -74,8 +83,9 @@ call_by labels names l None = None
 call_by labels names l (Some Verb.Write) = of_one (file_call (compiled labels (word_in 1 l) l.text.bytes)) (λ call. Call.Task call)
 call_by labels names l (Some Verb.Ask) = None
 call_by labels names l (Some Verb.Wait) = None
-call_by labels names l (Some (Verb.Task verb)) = of_one (task_call labels names l verb) (λ call. Call.Task call)
-call_by labels names l (Some (Verb.Tree verb)) = of_one (tree_call l verb) (λ call. Call.Tree call)
+call_by labels names l (Some Verb.Fork) = fork_call names l
+call_by labels names l (Some Verb.Exit) = Some (Call.Task TaskCall.Exit)
+call_by labels names l (Some (Verb.Call verb)) = made_call labels names l verb
 
 -- the object call that a line makes, where it makes one
 abbrev pub call_of_line : List (List ℕ) → List (List ℕ) → ScriptLine → Option Call

@@ -29,7 +29,7 @@ use Rattle.record_spec.specs.declared.AskedLine.{AskedLine}
 use Rattle.record_spec.specs.declared.AskedWhat.{AskedWhat}
 use Rattle.record_spec.specs.declared.AskedWhat.TheVariants as AskedWhat
 use Rattle.record_spec.specs.declared.RunRecord.{RunRecord}
-use Rattle.replay_spec.specs.Calls.{pid_in, of_one, task_call, tree_call}
+use Rattle.replay_spec.specs.Calls.{pid_in, made_call, fork_call}
 
 -- what the calls so far have left
 pub record Run : Type 0 where
@@ -125,8 +125,9 @@ after_verb labels names run l (Some Verb.Write) = written run l (compiled labels
 after_verb labels names run l (Some Verb.Ask) =
     answered run l (id_of labels (word_in 1 l)) (id_of labels (word_in 2 l)) (modes_in (word_in 3 l))
 after_verb labels names run l (Some Verb.Wait) = awaited run l (pid_in names (word_in 1 l))
-after_verb labels names run l (Some (Verb.Task verb)) = entered run l (of_one (task_call labels names l verb) (λ call. Call.Task call))
-after_verb labels names run l (Some (Verb.Tree verb)) = entered run l (of_one (tree_call l verb) (λ call. Call.Tree call))
+after_verb labels names run l (Some Verb.Fork) = entered run l (fork_call names l)
+after_verb labels names run l (Some Verb.Exit) = stepped_by run l (Call.Task TaskCall.Exit)
+after_verb labels names run l (Some (Verb.Call verb)) = entered run l (made_call labels names l verb)
 
 abbrev pub after_line : List (List ℕ) → List (List ℕ) → Run → ScriptLine → Run
 after_line labels names run l = after_verb labels names run l (verb_in l)

@@ -34,7 +34,7 @@ use Rattle.world_spec.specs.declared.Call.TheVariants as Call
 use Rattle.world_spec.specs.Worlds.{creds_of}
 use Rattle.record_spec.specs.declared.AskedLine.{AskedLine}
 use Rattle.record_spec.specs.declared.AskedWhat.TheVariants as AskedWhat
-use Rattle.replay_spec.specs.Calls.{pid_in, of_one, task_call, tree_call}
+use Rattle.replay_spec.specs.Calls.{pid_in, of_one, made_call}
 use Rattle.replay_spec.specs.Replays.{Run, run_first, number_of_task, is_before, with_asked, noted, published, stepped_by, written, answered, awaited, entered, modes_in, after_verb, after_line, run_of}
 use Rattle.replay_spec.specs.Plain.{IsNameTable}
 use Rattle.replay_spec.specs.Laws.{EachLineIsRecorded, is_call, lines_of_task, EachCallIsOnce}
@@ -135,8 +135,9 @@ module _ (p : ℕ → ℕ → Bool) where
       answered_more run l (id_of labels (word_in 1 l)) (id_of labels (word_in 2 l)) (modes_in (word_in 3 l))
       (found_label labels (word_in 1 l) made.0) (found_label labels (word_in 2 l) made.1) (found_modes (word_in 3 l) made.2)
   verb_more labels names run l Verb.Wait made = awaited_more run l (pid_in names (word_in 1 l)) made
-  verb_more labels names run l (Verb.Task verb) made = entered_more run l _ (still_some (task_call labels names l verb) (λ call. Call.Task call) made)
-  verb_more labels names run l (Verb.Tree verb) made = entered_more run l _ (still_some (tree_call l verb) (λ call. Call.Tree call) made)
+  verb_more labels names run l Verb.Fork made = entered_more run l _ (still_some (pid_in names (word_in 1 l)) (λ pid. Call.Task (TaskCall.Fork pid)) made)
+  verb_more labels names run l Verb.Exit made = stepped_more run l (Call.Task TaskCall.Exit)
+  verb_more labels names run l (Verb.Call verb) made = entered_more run l (made_call labels names l verb) made
 
 -- the labels of a call are in the table of its script
 call_labels : (above : List ScriptLine) (l : ScriptLine) (more : List ScriptLine) → HasNames (table_of (above ++ l ∷ more)) (labels_of l)

@@ -15,8 +15,11 @@ use Rattle.file_spec.specs.declared.Refusal.TheVariants as Refusal
 use Rattle.file_spec.specs.declared.Compiled.{Compiled}
 use Rattle.file_spec.specs.declared.Compiled.TheVariants as Compiled
 use Rattle.file_spec.specs.Files.{compiled}
+use Rattle.script_spec.specs.declared.CallVerb.{CallVerb}
+use Rattle.script_spec.specs.declared.CallVerb.TheVariants as CallVerb
 use Rattle.script_spec.specs.declared.Verb.{Verb}
 use Rattle.script_spec.specs.declared.Verb.TheVariants as Verb
+use Rattle.script_spec.specs.declared.TaskVerb.{TaskVerb}
 use Rattle.script_spec.specs.declared.TaskVerb.TheVariants as TaskVerb
 use Rattle.script_spec.specs.declared.TraceWay.{TraceWay}
 use Rattle.script_spec.specs.declared.TraceWay.TheVariants as TraceWay
@@ -28,10 +31,10 @@ use Rattle.world_spec.specs.declared.Call.{Call}
 use Rattle.world_spec.specs.declared.Call.TheVariants as Call
 use Rattle.world_spec.specs.Worlds.{TaskRow, task_begun, was_made, is_live, creds_of, with_child, without_life, most_tasks}
 use Rattle.record_spec.specs.declared.AskedWhat.TheVariants as AskedWhat
-use Rattle.replay_spec.specs.Calls.{pid_in, of_one, traced, task_call, tree_call}
+use Rattle.replay_spec.specs.Calls.{pid_in, of_one, traced, task_call, tree_call, made_call}
 use Rattle.replay_spec.specs.Plain.{IsNameTable}
 use Rattle.replay_spec.specs.Replays.{Run, or_none_yet, number_of_task, noted, published, stepped_by, written, answered, awaited, entered, modes_in, after_verb, after_line}
-use Rattle.replay_spec.proofs.ReadCalls.{of_one_holds, of_two_holds}
+use Rattle.replay_spec.proofs.ReadCalls.{of_none_holds, of_one_holds, of_two_holds}
 use Rattle.plain_records.proofs.GoodLines.{IsGoodLine, good_verb}
 use Rattle.plain_records.proofs.Tasks.{names_more, names_behind}
 use Rattle.replayed_records.proofs.Numbers.{AreNumbered, AreKept, changed_many, IsQuiet, same_exits, exit_numbered, push_numbered, live_numbered, none_made, row_is_live, quiet_kept, exit_done, fork_done}
@@ -41,14 +44,29 @@ abbrev pub IsQuietVerb : Verb → Type 0
 IsQuietVerb Verb.Write = Unit {0}
 IsQuietVerb Verb.Ask = Unit {0}
 IsQuietVerb Verb.Wait = Unit {0}
-IsQuietVerb (Verb.Task TaskVerb.Fork) = ⊥
-IsQuietVerb (Verb.Task TaskVerb.Exit) = ⊥
-IsQuietVerb (Verb.Task TaskVerb.Relabel) = Unit {0}
-IsQuietVerb (Verb.Task TaskVerb.Drop) = Unit {0}
-IsQuietVerb (Verb.Task TaskVerb.Kill) = Unit {0}
-IsQuietVerb (Verb.Task TaskVerb.Take) = Unit {0}
-IsQuietVerb (Verb.Task TaskVerb.Trace) = Unit {0}
-IsQuietVerb (Verb.Tree verb) = Unit {0}
+IsQuietVerb Verb.Fork = ⊥
+IsQuietVerb Verb.Exit = ⊥
+IsQuietVerb (Verb.Call verb) = Unit {0}
+
+-- nor does a call of such a verb
+abbrev QuietTask : TaskCall → Type 0
+QuietTask call = IsQuiet (Call.Task call)
+
+traced_quiet : (way : TraceWay) (pid : Pid) → QuietTask (traced way pid)
+traced_quiet TraceWay.Read pid = tt
+traced_quiet TraceWay.Attach pid = tt
+
+task_quiet : (labels names : List (List ℕ)) (l : ScriptLine) (verb : TaskVerb) (c : TaskCall) → task_call labels names l verb ≡ Some c → QuietTask c
+task_quiet labels names l TaskVerb.Relabel c is = of_one_holds QuietTask _ _ c (λ x told. tt) is
+task_quiet labels names l TaskVerb.Drop c is = of_one_holds QuietTask _ _ c (λ x told. tt) is
+task_quiet labels names l TaskVerb.Kill c is = of_two_holds QuietTask _ _ _ c (λ x y told told'. tt) is
+task_quiet labels names l TaskVerb.Take c is = of_none_holds QuietTask TaskCall.Take c tt is
+task_quiet labels names l TaskVerb.Trace c is = of_two_holds QuietTask _ _ traced c (λ x y told told'. traced_quiet x y) is
+
+pub made_quiet : (labels names : List (List ℕ)) (l : ScriptLine) (verb : CallVerb) (c : Call) → made_call labels names l verb ≡ Some c → IsQuiet c
+made_quiet labels names l (CallVerb.Task verb) c is =
+    of_one_holds IsQuiet (task_call labels names l verb) (λ t. Call.Task t) c (task_quiet labels names l verb) is
+made_quiet labels names l (CallVerb.Tree verb) c is = of_one_holds IsQuiet (tree_call l verb) (λ t. Call.Tree t) c (λ t told. tt) is
 
 -- the tasks of a run are in step with the calls so far: as many as were forked, each with its pid as its number, live
 -- until it exits
@@ -129,42 +147,21 @@ module _ (labels names : List (List ℕ)) (exited : ℕ → Bool) (run : Run) (l
   entered_kept None quiet = same
   entered_kept (Some c) quiet = step_kept c (quiet c refl)
 
-  abbrev QuietTask : TaskCall → Type 0
-  QuietTask call = IsQuiet (Call.Task call)
-
-  traced_quiet : (way : TraceWay) (pid : Pid) → QuietTask (traced way pid)
-  traced_quiet TraceWay.Read pid = tt
-  traced_quiet TraceWay.Attach pid = tt
-
-  task_kept : (call : Option TaskCall) → ((c : TaskCall) → call ≡ Some c → QuietTask c)
-      → AreKept exited run.world.tasks (entered run l (of_one call (λ c. Call.Task c))).world.tasks
-  task_kept call quiet = entered_kept (of_one call (λ c. Call.Task c)) (λ c is. of_one_holds IsQuiet call (λ t. Call.Task t) c quiet is)
-
   pub verb_kept : (verb : Verb) → IsQuietVerb verb → AreKept exited run.world.tasks (after_verb labels names run l (Some verb)).world.tasks
   verb_kept Verb.Write quiet = written_kept (compiled labels (word_in 1 l) l.text.bytes)
   verb_kept Verb.Ask quiet = answered_kept (id_of labels (word_in 1 l)) (id_of labels (word_in 2 l)) (modes_in (word_in 3 l))
   verb_kept Verb.Wait quiet = awaited_kept (pid_in names (word_in 1 l))
-  verb_kept (Verb.Task TaskVerb.Fork) quiet = absurd quiet
-  verb_kept (Verb.Task TaskVerb.Exit) quiet = absurd quiet
-  verb_kept (Verb.Task TaskVerb.Relabel) quiet = task_kept (task_call labels names l TaskVerb.Relabel) (λ c is. of_one_holds QuietTask _ _ c (λ x told. tt) is)
-  verb_kept (Verb.Task TaskVerb.Drop) quiet = task_kept (task_call labels names l TaskVerb.Drop) (λ c is. of_one_holds QuietTask _ _ c (λ x told. tt) is)
-  verb_kept (Verb.Task TaskVerb.Kill) quiet = task_kept (task_call labels names l TaskVerb.Kill) (λ c is. of_two_holds QuietTask _ _ _ c (λ x y told told'. tt) is)
-  verb_kept (Verb.Task TaskVerb.Take) quiet = step_kept (Call.Task TaskCall.Take) tt
-  verb_kept (Verb.Task TaskVerb.Trace) quiet = task_kept (task_call labels names l TaskVerb.Trace) (λ c is. of_two_holds QuietTask _ _ traced c (λ x y told told'. traced_quiet x y) is)
-  verb_kept (Verb.Tree verb) quiet = entered_kept (of_one (tree_call l verb) (λ c. Call.Tree c)) (λ c is. of_one_holds IsQuiet (tree_call l verb) (λ t. Call.Tree t) c (λ t told. tt) is)
+  verb_kept Verb.Fork quiet = absurd quiet
+  verb_kept Verb.Exit quiet = absurd quiet
+  verb_kept (Verb.Call verb) quiet = entered_kept (made_call labels names l verb) (made_quiet labels names l verb)
 
 quiet_change : (l : ScriptLine) (verb : Verb) → IsQuietVerb verb → (is_exit (change_by (Some verb) l) ≡ false) × (forked_name (change_by (Some verb) l) ≡ [])
 quiet_change l Verb.Write quiet = (refl, refl)
 quiet_change l Verb.Ask quiet = (refl, refl)
 quiet_change l Verb.Wait quiet = (refl, refl)
-quiet_change l (Verb.Task TaskVerb.Fork) quiet = absurd quiet
-quiet_change l (Verb.Task TaskVerb.Exit) quiet = absurd quiet
-quiet_change l (Verb.Task TaskVerb.Relabel) quiet = (refl, refl)
-quiet_change l (Verb.Task TaskVerb.Drop) quiet = (refl, refl)
-quiet_change l (Verb.Task TaskVerb.Kill) quiet = (refl, refl)
-quiet_change l (Verb.Task TaskVerb.Take) quiet = (refl, refl)
-quiet_change l (Verb.Task TaskVerb.Trace) quiet = (refl, refl)
-quiet_change l (Verb.Tree verb) quiet = (refl, refl)
+quiet_change l Verb.Fork quiet = absurd quiet
+quiet_change l Verb.Exit quiet = absurd quiet
+quiet_change l (Verb.Call verb) quiet = (refl, refl)
 
 -- tasks that are kept are in step with one more quiet call
 quiet_in_step : (above : List ScriptLine) (l : ScriptLine) (before after : List TaskRow) → l.task < length (task_names above) → IsInStep above before
@@ -244,9 +241,9 @@ module _ (labels names : List (List ℕ)) (above : List ScriptLine) (l : ScriptL
 
   forks : (pid : Option Pid) (name : List ℕ) → pid ≡ Some (record { 0 = length (task_names above) }) → is_exit (change_of l) ≡ false
       → forked_name (change_of l) ≡ name ∷ [] → length (task_names above) < most_tasks
-      → IsInStep (above ++ l ∷ []) (entered run l (of_one (of_one pid (λ p. TaskCall.Fork p)) (λ c. Call.Task c))).world.tasks
+      → IsInStep (above ++ l ∷ []) (entered run l (of_one pid (λ p. Call.Task (TaskCall.Fork p)))).world.tasks
   forks pid name at none one few =
-      subst (λ p. IsInStep (above ++ l ∷ []) (entered run l (of_one (of_one p (λ q. TaskCall.Fork q)) (λ c. Call.Task c))).world.tasks) (sym at)
+      subst (λ p. IsInStep (above ++ l ∷ []) (entered run l (of_one p (λ q. Call.Task (TaskCall.Fork q)))).world.tasks) (sym at)
       (fork_in_step above l run.world.tasks _ name (creds_of run.world number) good.there step none one
       (fork_done run.world (ruling run.journal) number (record { 0 = length (task_names above) }) live new (room few)))
 
@@ -269,7 +266,7 @@ module _ (labels names : List (List ℕ)) (above : List ScriptLine) (l : ScriptL
   verb_in_step Verb.Write is_verb table rest whole = quietly Verb.Write is_verb tt
   verb_in_step Verb.Ask is_verb table rest whole = quietly Verb.Ask is_verb tt
   verb_in_step Verb.Wait is_verb table rest whole = quietly Verb.Wait is_verb tt
-  verb_in_step (Verb.Task TaskVerb.Fork) is_verb table rest whole =
+  verb_in_step Verb.Fork is_verb table rest whole =
       let one : forked_name (change_of l) ≡ word_in 1 l ∷ [] = ap (λ v. forked_name (change_by v l)) is_verb in
       let few : length (task_names above) < most_tasks =
       omega (
@@ -282,14 +279,9 @@ module _ (labels names : List (List ℕ)) (above : List ScriptLine) (l : ScriptL
       (next_pid names (task_names above) (word_in 1 l) rest
       (whole ∙ ap (λ ns. (task_names above ++ ns) ++ rest) one ∙ append_assoc (task_names above) (word_in 1 l ∷ []) rest) table)
       (ap (λ v. is_exit (change_by v l)) is_verb) one few
-  verb_in_step (Verb.Task TaskVerb.Exit) is_verb table rest whole =
+  verb_in_step Verb.Exit is_verb table rest whole =
       exits (ap (λ v. is_exit (change_by v l)) is_verb) (ap (λ v. forked_name (change_by v l)) is_verb)
-  verb_in_step (Verb.Task TaskVerb.Relabel) is_verb table rest whole = quietly (Verb.Task TaskVerb.Relabel) is_verb tt
-  verb_in_step (Verb.Task TaskVerb.Drop) is_verb table rest whole = quietly (Verb.Task TaskVerb.Drop) is_verb tt
-  verb_in_step (Verb.Task TaskVerb.Kill) is_verb table rest whole = quietly (Verb.Task TaskVerb.Kill) is_verb tt
-  verb_in_step (Verb.Task TaskVerb.Take) is_verb table rest whole = quietly (Verb.Task TaskVerb.Take) is_verb tt
-  verb_in_step (Verb.Task TaskVerb.Trace) is_verb table rest whole = quietly (Verb.Task TaskVerb.Trace) is_verb tt
-  verb_in_step (Verb.Tree verb) is_verb table rest whole = quietly (Verb.Tree verb) is_verb tt
+  verb_in_step (Verb.Call verb) is_verb table rest whole = quietly (Verb.Call verb) is_verb tt
 
 -- the run after a good call of a script is in step with the calls up to it
 pub line_in_step : (above : List ScriptLine) (l : ScriptLine) (more : List ScriptLine) (labels : List (List ℕ)) (run : Run) → IsGoodLine above l

@@ -8,17 +8,20 @@ use Rattle.smack_base.specs.Modes.{is_modes}
 use Rattle.smack_base.specs.Paths.{path_of}
 use Rattle.text_spec.specs.Texts.{Placed}
 use Rattle.text_spec.specs.Names.{place_of, has_name, id_of}
+use Rattle.script_spec.specs.declared.CallVerb.TheVariants as CallVerb
 use Rattle.script_spec.specs.declared.Verb.{Verb}
 use Rattle.script_spec.specs.declared.Verb.TheVariants as Verb
+use Rattle.script_spec.specs.declared.TaskVerb.{TaskVerb}
 use Rattle.script_spec.specs.declared.TaskVerb.TheVariants as TaskVerb
+use Rattle.script_spec.specs.declared.TreeVerb.{TreeVerb}
 use Rattle.script_spec.specs.declared.TreeVerb.TheVariants as TreeVerb
 use Rattle.script_spec.specs.declared.WordKind.{WordKind}
 use Rattle.script_spec.specs.declared.WordKind.TheVariants as WordKind
-use Rattle.script_spec.specs.Words.{kinds_of, cap_of, number_of, signal_of, trace_way_of, word_at}
+use Rattle.script_spec.specs.Words.{task_kinds, tree_kinds, kinds_of, cap_of, number_of, signal_of, trace_way_of, word_at}
 use Rattle.script_spec.specs.Lines.{ScriptLine, word_in, label_words}
 use Rattle.script_spec.specs.Tasks.{TaskChange, Forks, Exits, Awaits, Keeps, forked_name, is_fork, change_by, change_of, parents_in, task_names, tasks_of, pid_of, latest_child, is_pid, is_latest_child}
-use Rattle.script_spec.specs.Causes.{is_name_good, is_wait_good}
-use Rattle.replay_spec.specs.Calls.{path_in, pid_in, of_one, of_two, traced, task_call, tree_call}
+use Rattle.script_spec.specs.Causes.{is_task_name_good, is_name_good, is_wait_good}
+use Rattle.replay_spec.specs.Calls.{path_in, pid_in, of_one, of_two, traced, task_call, tree_call, made_call}
 use Rattle.plain_records.proofs.Tables.{HasNames}
 use Rattle.plain_records.proofs.KindsOfWords.{kind_1, kind_2, kind_3}
 use Rattle.plain_records.proofs.GoodLines.{AreOfKinds}
@@ -90,8 +93,9 @@ IsMade labels names l Verb.Write = Unit {0}
 IsMade labels names l Verb.Ask =
     (has_name labels (word_in 1 l) ≡ true) × (has_name labels (word_in 2 l) ≡ true) × (is_modes (word_in 3 l) ≡ true)
 IsMade labels names l Verb.Wait = is_some (pid_in names (word_in 1 l)) ≡ true
-IsMade labels names l (Verb.Task verb) = is_some (task_call labels names l verb) ≡ true
-IsMade labels names l (Verb.Tree verb) = is_some (tree_call l verb) ≡ true
+IsMade labels names l Verb.Fork = is_some (pid_in names (word_in 1 l)) ≡ true
+IsMade labels names l Verb.Exit = Unit {0}
+IsMade labels names l (Verb.Call verb) = is_some (made_call labels names l verb) ≡ true
 
 -- the words that stand for labels are known
 label_1 : (labels : List (List ℕ)) (l : ScriptLine) (first : Placed) (ds : List WordKind) (behind : List Placed) → l.words ≡ first ∷ behind
@@ -112,6 +116,27 @@ module _ (labels names : List (List ℕ)) (above : List ScriptLine) (l : ScriptL
   found_path_1 : (ds : List WordKind) → AreOfKinds (first ∷ []) (WordKind.Path ∷ ds) behind → is_some (path_in (word_in 1 l)) ≡ true
   found_path_1 ds kinds = found_path (path_of (word_in 1 l)) (kind_1 l first WordKind.Path ds behind words kinds)
 
+  task_call_is_made : (verb : TaskVerb) → AreOfKinds (first ∷ []) (task_kinds verb) behind → HasNames labels (label_words (task_kinds verb) behind)
+      → is_task_name_good (tasks_of above) verb behind ≡ true → is_some (task_call labels names l verb) ≡ true
+  task_call_is_made TaskVerb.Relabel kinds known name =
+      made_of_one (id_of labels (word_in 1 l)) _ (found_label labels (word_in 1 l) (label_1 labels l first [] behind words kinds known))
+  task_call_is_made TaskVerb.Drop kinds known name = made_of_one (cap_of (word_in 1 l)) _ (kind_1 l first WordKind.Capability [] behind words kinds)
+  task_call_is_made TaskVerb.Kill kinds known name =
+      made_of_two (pid_in names (word_in 1 l)) (signal_of (word_in 2 l)) _ (found_task names (word_in 1 l) (rw words (tasks (word_at 0 behind).bytes name)))
+      (kind_2 l first WordKind.TaskName WordKind.Signal [] behind words kinds).1
+  task_call_is_made TaskVerb.Take kinds known name = refl
+  task_call_is_made TaskVerb.Trace kinds known name =
+      made_of_two (trace_way_of (word_in 1 l)) (pid_in names (word_in 2 l)) traced
+      (and_parts _ (is_some (trace_way_of (word_in 1 l))) (kind_1 l first WordKind.Way (WordKind.TaskName ∷ []) behind words kinds)).1
+      (found_task names (word_in 2 l) (rw words (tasks (word_at 1 behind).bytes name)))
+
+  tree_call_is_made : (verb : TreeVerb) → AreOfKinds (first ∷ []) (tree_kinds verb) behind → is_some (tree_call l verb) ≡ true
+  tree_call_is_made TreeVerb.Create kinds = made_of_one (path_in (word_in 1 l)) _ (found_path_1 [] kinds)
+  tree_call_is_made TreeVerb.Unlink kinds = made_of_one (path_in (word_in 1 l)) _ (found_path_1 [] kinds)
+  tree_call_is_made TreeVerb.List kinds =
+      made_of_two (path_in (word_in 1 l)) (number_of (word_in 2 l)) _ (found_path_1 (WordKind.Number ∷ []) kinds)
+      (kind_2 l first WordKind.Path WordKind.Number [] behind words kinds).1
+
   pub call_is_made : (verb : Verb) → AreOfKinds (first ∷ []) (kinds_of verb) behind → HasNames labels (label_words (kinds_of verb) behind)
       → is_name_good (tasks_of above) verb behind ≡ true → is_wait_good (tasks_of above) l.task verb behind ≡ true
       → HasNames names (forked_name (change_by (Some verb) l)) → IsMade labels names l verb
@@ -123,22 +148,8 @@ module _ (labels names : List (List ℕ)) (above : List ScriptLine) (l : ScriptL
   )
   call_is_made Verb.Wait kinds known name wait forked =
       found_task names (word_in 1 l) (rw words (tasks (word_at 0 behind).bytes (child_has_name above l.task (word_at 0 behind).bytes wait)))
-  call_is_made (Verb.Task TaskVerb.Fork) kinds known name wait forked =
-      made_of_one (pid_in names (word_in 1 l)) _ (found_task names (word_in 1 l) forked.0)
-  call_is_made (Verb.Task TaskVerb.Exit) kinds known name wait forked = refl
-  call_is_made (Verb.Task TaskVerb.Relabel) kinds known name wait forked =
-      made_of_one (id_of labels (word_in 1 l)) _ (found_label labels (word_in 1 l) (label_1 labels l first [] behind words kinds known))
-  call_is_made (Verb.Task TaskVerb.Drop) kinds known name wait forked = made_of_one (cap_of (word_in 1 l)) _ (kind_1 l first WordKind.Capability [] behind words kinds)
-  call_is_made (Verb.Task TaskVerb.Kill) kinds known name wait forked =
-      made_of_two (pid_in names (word_in 1 l)) (signal_of (word_in 2 l)) _ (found_task names (word_in 1 l) (rw words (tasks (word_at 0 behind).bytes name)))
-      (kind_2 l first WordKind.TaskName WordKind.Signal [] behind words kinds).1
-  call_is_made (Verb.Task TaskVerb.Take) kinds known name wait forked = refl
-  call_is_made (Verb.Task TaskVerb.Trace) kinds known name wait forked =
-      made_of_two (trace_way_of (word_in 1 l)) (pid_in names (word_in 2 l)) traced
-      (and_parts _ (is_some (trace_way_of (word_in 1 l))) (kind_1 l first WordKind.Way (WordKind.TaskName ∷ []) behind words kinds)).1
-      (found_task names (word_in 2 l) (rw words (tasks (word_at 1 behind).bytes name)))
-  call_is_made (Verb.Tree TreeVerb.Create) kinds known name wait forked = made_of_one (path_in (word_in 1 l)) _ (found_path_1 [] kinds)
-  call_is_made (Verb.Tree TreeVerb.Unlink) kinds known name wait forked = made_of_one (path_in (word_in 1 l)) _ (found_path_1 [] kinds)
-  call_is_made (Verb.Tree TreeVerb.List) kinds known name wait forked =
-      made_of_two (path_in (word_in 1 l)) (number_of (word_in 2 l)) _ (found_path_1 (WordKind.Number ∷ []) kinds)
-      (kind_2 l first WordKind.Path WordKind.Number [] behind words kinds).1
+  call_is_made Verb.Fork kinds known name wait forked = found_task names (word_in 1 l) forked.0
+  call_is_made Verb.Exit kinds known name wait forked = tt
+  call_is_made (Verb.Call (CallVerb.Task verb)) kinds known name wait forked =
+      made_of_one (task_call labels names l verb) _ (task_call_is_made verb kinds known name)
+  call_is_made (Verb.Call (CallVerb.Tree verb)) kinds known name wait forked = made_of_one (tree_call l verb) _ (tree_call_is_made verb kinds)

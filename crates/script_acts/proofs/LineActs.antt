@@ -9,48 +9,55 @@ use Rattle.world_spec.specs.declared.Call.{Call}
 use Rattle.world_spec.specs.declared.Call.TheVariants as Call
 use Rattle.world_spec.specs.declared.TaskCall.{TaskCall}
 use Rattle.world_spec.specs.declared.TaskCall.TheVariants as TaskCall
-use Rattle.world_spec.specs.declared.TreeCall.{TreeCall}
+use Rattle.script_spec.specs.declared.CallVerb.{CallVerb}
+use Rattle.script_spec.specs.declared.CallVerb.TheVariants as CallVerb
 use Rattle.script_spec.specs.declared.TaskVerb.{TaskVerb}
-use Rattle.script_spec.specs.declared.TreeVerb.{TreeVerb}
+use Rattle.script_spec.specs.declared.TaskVerb.TheVariants as TaskVerb
+use Rattle.script_spec.specs.declared.TraceWay.{TraceWay}
+use Rattle.script_spec.specs.declared.TraceWay.TheVariants as TraceWay
 use Rattle.script_spec.specs.declared.Verb.TheVariants as Verb
 use Rattle.script_spec.specs.declared.Verb.{Verb}
 use Rattle.script_spec.specs.Lines.{ScriptLine, word_in, verb_in}
-use Rattle.replay_spec.specs.Calls.{pid_in, of_one, task_call, tree_call, call_by, call_of_line}
+use Rattle.replay_spec.specs.Calls.{pid_in, of_one, traced, task_call, tree_call, made_call, call_by, call_of_line}
 use Rattle.replay_spec.specs.Replays.{modes_in}
+use Rattle.replay_spec.proofs.ReadCalls.{of_none_holds, of_one_holds, of_two_holds}
 use Rattle.smack_kernel.specs.Answers.{is_fork}
 use Rattle.task_runs.specs.Orders.{knows_words, is_known}
 use Rattle.script_acts.specs.declared.acts.Act.{Act}
 use Rattle.script_acts.specs.declared.acts.Act.TheVariants as Act
-use Rattle.script_acts.specs.Acts.{IsActOf, IsAct}
+use Rattle.script_acts.specs.Acts.{IsAct}
 
-pub no_fork : (call : TaskCall) → ((pid : Pid) → call ≡ TaskCall.Fork pid → ⊥) → is_fork (Call.Task call) ≡ false
-no_fork (TaskCall.Fork pid) n = absurd (n pid refl)
-no_fork TaskCall.Exit n = refl
-no_fork (TaskCall.Relabel l) n = refl
-no_fork (TaskCall.DropCap cap) n = refl
-no_fork (TaskCall.SelfRules rules) n = refl
-no_fork (TaskCall.Relabels labels) n = refl
-no_fork (TaskCall.Kill pid sig) n = refl
-no_fork TaskCall.Take n = refl
-no_fork (TaskCall.TraceRead pid) n = refl
-no_fork (TaskCall.TraceAttach pid) n = refl
+-- a verb of calls makes no fork
+abbrev ForksNothing : TaskCall → Type 0
+ForksNothing call = is_fork (Call.Task call) ≡ false
+
+trace_forks_nothing : (way : TraceWay) (pid : Pid) → ForksNothing (traced way pid)
+trace_forks_nothing TraceWay.Read pid = refl
+trace_forks_nothing TraceWay.Attach pid = refl
 
 module _ (labels names : List (List ℕ)) (l : ScriptLine) where
-  acts : (call : Call) (a : Act) → call_of_line labels names l ≡ Some call → IsActOf call a → IsAct labels names l a
-  acts call Act.Write is a = absurd a
-  acts call (Act.Ask s o m) is a = absurd a
-  acts call (Act.Wait pid) is a = absurd a
-  acts call (Act.Fork pid) is a = is ∙ ap (λ c. Some c) a
-  acts call (Act.Make made) is a = (is ∙ ap (λ c. Some c) a.0, a.1)
+  task_forks_nothing : (verb : TaskVerb) (call : TaskCall) → task_call labels names l verb ≡ Some call → ForksNothing call
+  task_forks_nothing TaskVerb.Relabel call is = of_one_holds ForksNothing _ _ call (λ x told. refl) is
+  task_forks_nothing TaskVerb.Drop call is = of_one_holds ForksNothing _ _ call (λ x told. refl) is
+  task_forks_nothing TaskVerb.Kill call is = of_two_holds ForksNothing _ _ _ call (λ x y told told'. refl) is
+  task_forks_nothing TaskVerb.Take call is = of_none_holds ForksNothing TaskCall.Take call refl is
+  task_forks_nothing TaskVerb.Trace call is = of_two_holds ForksNothing _ _ traced call (λ x y told told'. trace_forks_nothing x y) is
 
-  pub task_acts : (verb : TaskVerb) (call : TaskCall) (a : Act) → verb_in l ≡ Some (Verb.Task verb) → task_call labels names l verb ≡ Some call
-      → IsActOf (Call.Task call) a → IsAct labels names l a
-  task_acts verb call a is makes of = acts (Call.Task call) a
-      (ap (call_by labels names l) is ∙ ap (λ (c : Option TaskCall). of_one c (λ t. Call.Task t)) makes) of
+  pub forks_nothing : (verb : CallVerb) (call : Call) → made_call labels names l verb ≡ Some call → is_fork call ≡ false
+  forks_nothing (CallVerb.Task verb) call is =
+      of_one_holds (λ c. is_fork c ≡ false) (task_call labels names l verb) (λ t. Call.Task t) call (task_forks_nothing verb) is
+  forks_nothing (CallVerb.Tree verb) call is = of_one_holds (λ c. is_fork c ≡ false) (tree_call l verb) (λ t. Call.Tree t) call (λ t told. refl) is
 
-  pub tree_acts : (verb : TreeVerb) (call : TreeCall) → verb_in l ≡ Some (Verb.Tree verb) → tree_call l verb ≡ Some call
-      → IsAct labels names l (Act.Make (Call.Tree call))
-  tree_acts verb call is makes = (ap (call_by labels names l) is ∙ ap (λ (c : Option TreeCall). of_one c (λ t. Call.Tree t)) makes, refl)
+  -- what the lines do that make object calls
+  pub fork_acts : (pid : Pid) → verb_in l ≡ Some Verb.Fork → pid_in names (word_in 1 l) ≡ Some pid → IsAct labels names l (Act.Fork pid)
+  fork_acts pid is named = ap (call_by labels names l) is ∙ ap (λ (p : Option Pid). of_one p (λ x. Call.Task (TaskCall.Fork x))) named
+
+  pub exit_acts : verb_in l ≡ Some Verb.Exit → call_of_line labels names l ≡ Some (Call.Task TaskCall.Exit)
+  exit_acts is = ap (call_by labels names l) is
+
+  pub call_acts : (verb : CallVerb) (call : Call) → verb_in l ≡ Some (Verb.Call verb) → made_call labels names l verb ≡ Some call
+      → call_of_line labels names l ≡ Some call
+  call_acts verb call is makes = ap (call_by labels names l) is ∙ makes
 
 none_third : (a b : Bool) → (a && (b && false)) ≡ false
 none_third true true = refl
@@ -86,8 +93,8 @@ module _ (labels names : List (List ℕ)) (l : ScriptLine) where
   pub no_child : verb_in l ≡ Some Verb.Wait → pid_in names (word_in 1 l) ≡ None → is_known labels names l ≡ false
   no_child is none = by_verb (Some Verb.Wait) is (ap is_some none)
 
-  pub no_task_call : (verb : TaskVerb) → verb_in l ≡ Some (Verb.Task verb) → task_call labels names l verb ≡ None → is_known labels names l ≡ false
-  no_task_call verb is none = by_verb (Some (Verb.Task verb)) is (ap is_some none)
+  pub no_new_task : verb_in l ≡ Some Verb.Fork → pid_in names (word_in 1 l) ≡ None → is_known labels names l ≡ false
+  no_new_task is none = by_verb (Some Verb.Fork) is (ap is_some none)
 
-  pub no_tree_call : (verb : TreeVerb) → verb_in l ≡ Some (Verb.Tree verb) → tree_call l verb ≡ None → is_known labels names l ≡ false
-  no_tree_call verb is none = by_verb (Some (Verb.Tree verb)) is (ap is_some none)
+  pub no_call : (verb : CallVerb) → verb_in l ≡ Some (Verb.Call verb) → made_call labels names l verb ≡ None → is_known labels names l ≡ false
+  no_call verb is none = by_verb (Some (Verb.Call verb)) is (ap is_some none)

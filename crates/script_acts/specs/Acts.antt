@@ -13,14 +13,6 @@ use Rattle.task_runs.specs.Orders.{is_known}
 use Rattle.script_acts.specs.declared.acts.Act.{Act}
 use Rattle.script_acts.specs.declared.acts.Act.TheVariants as Act
 
--- an act is this call
-abbrev pub IsActOf : Call → Act → Type 0
-IsActOf call Act.Write = ⊥
-IsActOf call (Act.Ask s o m) = ⊥
-IsActOf call (Act.Wait pid) = ⊥
-IsActOf call (Act.Fork pid) = call ≡ Call.Task (TaskCall.Fork pid)
-IsActOf call (Act.Make made) = (call ≡ made) × (is_fork made ≡ false)
-
 -- a line does this at a kernel, by the labels and the names of the tasks
 abbrev pub IsAct : List (List ℕ) → List (List ℕ) → ScriptLine → Act → Type 0
 IsAct labels names l Act.Write = verb_in l ≡ Some Verb.Write

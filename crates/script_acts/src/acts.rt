@@ -2,11 +2,11 @@ ghost use Rattle.std.specs.Prelude.{◌≡◌, ◌≤◌, ℕ, List, length, Som
 ghost use Rattle.script_spec.specs.Grammar.{most_tasks};
 ghost use Rattle.script_spec.specs.Lines.{verb_in};
 ghost use Rattle.script_text.specs.Lines.{call_seen};
-ghost use Rattle.script_acts.specs.Acts.{IsActOf, IsAnyAct};
+ghost use Rattle.script_acts.specs.Acts.{IsAnyAct};
 
 use label_table::Labels;
-use script_calls::{modes_in, pid_in, task_call, tree_call, words_of};
-use script_text::{Line, TaskVerb, TreeVerb, Verb, verb_of};
+use script_calls::{made_call, modes_in, pid_in, words_of};
+use script_text::{CallVerb, Line, Verb, verb_of};
 use smack_base::{Bytes, LabelId, Modes, Pid};
 use std::alloc::{AllocError, Global};
 use world_spec::{Call, TaskCall};
@@ -56,43 +56,39 @@ fn wait(names: &[Bytes], line: &Line<'_>) -> Option<Act>
     }
 }
 
-/// A call on tasks as what it does.
-#[tactic(auto, using(crate::proofs::LineActs::no_fork))]
-fn act_of_call(call: TaskCall) -> Act
-    ensures { IsActOf (Call.Task call) result }
-{
-    match call {
-        TaskCall::Fork { pid } => Act::Fork(pid),
-        call => Act::Make(Call::Task(call)),
-    }
-}
-
-#[tactic(auto, using(crate::proofs::LineActs::task_acts, crate::proofs::LineActs::no_task_call))]
-fn task_act(labels: &Labels, names: &[Bytes], line: &Line<'_>, verb: TaskVerb) -> Option<Act>
+#[tactic(auto, using(crate::proofs::LineActs::fork_acts, crate::proofs::LineActs::no_new_task))]
+fn fork(names: &[Bytes], line: &Line<'_>) -> Option<Act>
     requires names { length names.now ≤ most_tasks }
-    requires verb { verb_in (call_seen line.now) ≡ Some (Verb.Task verb) }
-    ensures { IsAnyAct labels.now names.now (call_seen line.now) result }
+    requires verb { verb_in (call_seen line.now) ≡ Some Verb.Fork }
+    ensures { (labels : List (List ℕ)) → IsAnyAct labels names.now (call_seen line.now) result }
 {
-    match task_call(labels, names, line, verb) {
-        Some(call) => Some(act_of_call(call)),
+    match pid_in(names, words_of(line).one) {
+        Some(pid) => Some(Act::Fork(pid)),
         None => None,
     }
 }
 
-#[tactic(auto, using(crate::proofs::LineActs::tree_acts, crate::proofs::LineActs::no_tree_call))]
-fn tree_act(alloc: Global, line: &Line<'_>, verb: TreeVerb) -> Result<Option<Act>, AllocError>
-    requires { verb_in (call_seen line.now) ≡ Some (Verb.Tree verb) }
-    ensures { IfOk result (λ act. (labels names : List (List ℕ)) → IsAnyAct labels names (call_seen line.now) act) }
+#[tactic(auto, using(crate::proofs::LineActs::call_acts, crate::proofs::LineActs::forks_nothing, crate::proofs::LineActs::no_call))]
+fn call_act(
+    alloc: Global,
+    labels: &Labels,
+    names: &[Bytes],
+    line: &Line<'_>,
+    verb: CallVerb,
+) -> Result<Option<Act>, AllocError>
+    requires names { length names.now ≤ most_tasks }
+    requires verb { verb_in (call_seen line.now) ≡ Some (Verb.Call verb) }
+    ensures { IfOk result (IsAnyAct labels.now names.now (call_seen line.now)) }
 {
-    match tree_call(alloc, line, verb)? {
-        Some(call) => Ok(Some(Act::Make(Call::Tree(call)))),
+    match made_call(alloc, labels, names, line, verb)? {
+        Some(call) => Ok(Some(Act::Make(call))),
         None => Ok(None),
     }
 }
 
 /// What a line does, by the labels and the names of the tasks; None where it has no verb, or words
 /// that are not of their kinds or not known, which is so in no script.
-#[tactic(auto, using(crate::proofs::LineActs::no_verb))]
+#[tactic(auto, using(crate::proofs::LineActs::no_verb, crate::proofs::LineActs::exit_acts))]
 pub fn act_of(
     alloc: Global,
     labels: &Labels,
@@ -106,8 +102,9 @@ pub fn act_of(
         Some(Verb::Write) => Ok(Some(Act::Write)),
         Some(Verb::Ask) => Ok(question(labels, line)),
         Some(Verb::Wait) => Ok(wait(names, line)),
-        Some(Verb::Task(verb)) => Ok(task_act(labels, names, line, verb)),
-        Some(Verb::Tree(verb)) => tree_act(alloc, line, verb),
+        Some(Verb::Fork) => Ok(fork(names, line)),
+        Some(Verb::Exit) => Ok(Some(Act::Make(Call::Task(TaskCall::Exit)))),
+        Some(Verb::Call(verb)) => call_act(alloc, labels, names, line, verb),
         None => Ok(None),
     }
 }

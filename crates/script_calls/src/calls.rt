@@ -4,16 +4,17 @@ ghost use Rattle.script_spec.specs.Grammar.{most_tasks};
 ghost use Rattle.script_text.specs.Lines.{call_seen};
 ghost use Rattle.script_spec.specs.Words.{signal_of as signal_of_word, trace_way_of as way_of_word};
 ghost use Rattle.replay_spec.specs.Replays.{modes_in as modes_of_word};
-ghost use Rattle.replay_spec.specs.Calls.{of_two, traced, path_in as path_of_word, pid_in as pid_of_word, task_call as task_call_of, tree_call as tree_call_of};
+ghost use Rattle.replay_spec.specs.Calls.{of_two, traced, path_in as path_of_word, pid_in as pid_of_word, task_call as task_call_of, tree_call as tree_call_of, made_call as made_call_of, fork_call as fork_call_of};
 
 use crate::words::words_of;
 use label_table::Labels;
 use script_text::{
-    Line, MOST_BYTES, TaskVerb, TraceWay, TreeVerb, cap_of, number_of, signal_of, trace_way_of,
+    CallVerb, Line, MOST_BYTES, TaskVerb, TraceWay, TreeVerb, cap_of, number_of, signal_of,
+    trace_way_of,
 };
 use smack_base::{Bytes, Duplicate, Modes, Path, PathFault, Pid};
 use std::alloc::{AllocError, Global};
-use world_spec::{TaskCall, TreeCall};
+use world_spec::{Call, TaskCall, TreeCall};
 
 /// The path that a word is; None where it is none.
 #[tactic(auto, using(crate::proofs::LongPaths::no_long_path))]
@@ -72,22 +73,12 @@ fn trace(names: &[Bytes], way: &[u8], name: &[u8]) -> Option<TaskCall>
 }
 
 /// The call that a line makes on tasks; None where its words are not of their kinds.
-pub fn task_call(
-    labels: &Labels,
-    names: &[Bytes],
-    line: &Line<'_>,
-    verb: TaskVerb,
-) -> Option<TaskCall>
+fn task_call(labels: &Labels, names: &[Bytes], line: &Line<'_>, verb: TaskVerb) -> Option<TaskCall>
     requires { length names.now ≤ most_tasks }
     ensures { result ≡ task_call_of labels.now names.now (call_seen line.now) verb }
 {
     let words = words_of(line);
     match verb {
-        TaskVerb::Fork => match pid_in(names, words.one) {
-            Some(pid) => Some(TaskCall::Fork { pid }),
-            None => None,
-        },
-        TaskVerb::Exit => Some(TaskCall::Exit),
         TaskVerb::Relabel => match labels.id(words.one) {
             Some(l) => Some(TaskCall::Relabel { l }),
             None => None,
@@ -117,11 +108,7 @@ fn listing(alloc: Global, line: &Line<'_>) -> Result<Option<TreeCall>, AllocErro
 }
 
 /// The call that a line makes on the file tree; None where its words are not of their kinds.
-pub fn tree_call(
-    alloc: Global,
-    line: &Line<'_>,
-    verb: TreeVerb,
-) -> Result<Option<TreeCall>, AllocError>
+fn tree_call(alloc: Global, line: &Line<'_>, verb: TreeVerb) -> Result<Option<TreeCall>, AllocError>
     ensures { IfOk result (λ call. call ≡ tree_call_of (call_seen line.now) verb) }
 {
     match verb {
@@ -134,6 +121,40 @@ pub fn tree_call(
             None => Ok(None),
         },
         TreeVerb::List => listing(alloc, line),
+    }
+}
+
+/// The call of a line with this verb; None where its words are not of their kinds.
+pub fn made_call(
+    alloc: Global,
+    labels: &Labels,
+    names: &[Bytes],
+    line: &Line<'_>,
+    verb: CallVerb,
+) -> Result<Option<Call>, AllocError>
+    requires { length names.now ≤ most_tasks }
+    ensures { IfOk result (λ call. call ≡ made_call_of labels.now names.now (call_seen line.now) verb) }
+{
+    match verb {
+        CallVerb::Task(verb) => match task_call(labels, names, line, verb) {
+            Some(call) => Ok(Some(Call::Task(call))),
+            None => Ok(None),
+        },
+        CallVerb::Tree(verb) => match tree_call(alloc, line, verb)? {
+            Some(call) => Ok(Some(Call::Tree(call))),
+            None => Ok(None),
+        },
+    }
+}
+
+/// The fork of a line whose word names a task; None where it names none.
+pub fn fork_call(names: &[Bytes], line: &Line<'_>) -> Option<Call>
+    requires { length names.now ≤ most_tasks }
+    ensures { result ≡ fork_call_of names.now (call_seen line.now) }
+{
+    match pid_in(names, words_of(line).one) {
+        Some(pid) => Some(Call::Task(TaskCall::Fork { pid })),
+        None => None,
     }
 }
 

@@ -7,7 +7,7 @@ ghost use Rattle.world_spec.specs.Worlds.{creds_of};
 ghost use Rattle.script_spec.specs.Grammar.{most_tasks};
 ghost use Rattle.script_spec.specs.Lines.{word_in};
 ghost use Rattle.script_text.specs.Lines.{call_seen};
-ghost use Rattle.replay_spec.specs.Calls.{of_one, pid_in as pid_of_word, task_call as task_call_of, tree_call as tree_call_of};
+ghost use Rattle.replay_spec.specs.Calls.{pid_in as pid_of_word, made_call as made_call_of};
 ghost use Rattle.replay_spec.specs.Replays.{modes_in as modes_of_word, number_of_task, noted, after_line, published, written, answered, awaited, entered, stepped_by, run_first};
 ghost use Rattle.smack_world.specs.Stepping.{most_entries};
 ghost use Rattle.script_replay.specs.Running.{seen, IsRunning, Runs};
@@ -15,8 +15,8 @@ ghost use Rattle.script_replay.specs.Running.{seen, IsRunning, Runs};
 use asked_lines::{AskedByTask, AskedLine, AskedWhat};
 use label_table::Labels;
 use rule_fold::{Batch, Journal, RuleIndex};
-use script_calls::{modes_in, pid_in, task_call, tree_call, words_of};
-use script_text::{Line, TaskVerb, TreeVerb, Verb, verb_of};
+use script_calls::{fork_call, made_call, modes_in, pid_in, words_of};
+use script_text::{CallVerb, Line, Verb, verb_of};
 use smack_base::{Bytes, Cap, LabelId, Modes, Pid, RuleOps};
 use smack_decide::{cases, effective};
 use smack_world::{Call, Stepped, TaskCall, World};
@@ -208,41 +208,34 @@ impl Runner {
         }
     }
 
-    /// Makes the call of a line on tasks.
-    fn task_line(
+    /// Makes a call of a line, where its words are one.
+    fn make(&mut self, alloc: Global, line: &Line<'_>, call: Option<Call>) -> Result<(), AllocError>
+        requires running { IsRunning self.old }
+        requires room { length self.old.world.trail < most_entries }
+        ensures { OnOk result (Runs self.old self.new (entered (seen self.old) (call_seen line.now) call)) }
+    {
+        match call {
+            Some(call) => self.enter(alloc, line, call),
+            None => Ok(()),
+        }
+    }
+
+    /// Makes the call of a line with a verb of calls.
+    fn call_line(
         &mut self,
         alloc: Global,
         labels: &Labels,
         names: &[Bytes],
         line: &Line<'_>,
-        verb: TaskVerb,
+        verb: CallVerb,
     ) -> Result<(), AllocError>
         requires running { IsRunning self.old }
         requires room { length self.old.world.trail < most_entries }
         requires names { length names.now ≤ most_tasks }
-        ensures { OnOk result (Runs self.old self.new (entered (seen self.old) (call_seen line.now) (of_one (task_call_of labels.now names.now (call_seen line.now) verb) (λ call. Call.Task call)))) }
+        ensures { OnOk result (Runs self.old self.new (entered (seen self.old) (call_seen line.now) (made_call_of labels.now names.now (call_seen line.now) verb))) }
     {
-        match task_call(labels, names, line, verb) {
-            Some(call) => self.enter(alloc, line, Call::Task(call)),
-            None => Ok(()),
-        }
-    }
-
-    /// Makes the call of a line on the file tree.
-    fn tree_line(
-        &mut self,
-        alloc: Global,
-        line: &Line<'_>,
-        verb: TreeVerb,
-    ) -> Result<(), AllocError>
-        requires running { IsRunning self.old }
-        requires room { length self.old.world.trail < most_entries }
-        ensures { OnOk result (Runs self.old self.new (entered (seen self.old) (call_seen line.now) (of_one (tree_call_of (call_seen line.now) verb) (λ call. Call.Tree call)))) }
-    {
-        match tree_call(alloc, line, verb)? {
-            Some(call) => self.enter(alloc, line, Call::Tree(call)),
-            None => Ok(()),
-        }
+        let call = made_call(alloc, labels, names, line, verb)?;
+        self.make(alloc, line, call)
     }
 
     /// Runs one more call, by the labels of its script and the names of its tasks.
@@ -263,8 +256,9 @@ impl Runner {
             Some(Verb::Write) => self.write(alloc, labels, line),
             Some(Verb::Ask) => self.ask(labels, line),
             Some(Verb::Wait) => self.wait(names, line),
-            Some(Verb::Task(verb)) => self.task_line(alloc, labels, names, line, verb),
-            Some(Verb::Tree(verb)) => self.tree_line(alloc, line, verb),
+            Some(Verb::Fork) => self.make(alloc, line, fork_call(names, line)),
+            Some(Verb::Exit) => self.enter(alloc, line, Call::Task(TaskCall::Exit)),
+            Some(Verb::Call(verb)) => self.call_line(alloc, labels, names, line, verb),
             None => Ok(()),
         }
     }

@@ -7,7 +7,6 @@ use Rattle.world_spec.specs.declared.Call.TheVariants as Call
 use Rattle.world_spec.specs.declared.TaskCall.TheVariants as TaskCall
 use Rattle.script_spec.specs.declared.Verb.{Verb}
 use Rattle.script_spec.specs.declared.Verb.TheVariants as Verb
-use Rattle.script_spec.specs.declared.TaskVerb.TheVariants as TaskVerb
 use Rattle.script_spec.specs.Lines.{ScriptLine, word_in, verb_in}
 use Rattle.script_spec.specs.Tasks.{change_by}
 use Rattle.record_spec.specs.declared.AskedLine.{AskedLine}
@@ -32,7 +31,7 @@ module _ (s : Scripted) (l : ScriptLine) (ls : List ScriptLine) where
   pub no_child : (pid : Pid) → IsAct s.labels s.names l (Act.Wait pid) → IsDisorderly s (l ∷ ls)
   no_child pid act all is = by_verb (Some Verb.Wait) act.0 is
 
-  forked : (found : Option Pid) (call : Call) → of_one (of_one found (λ p. TaskCall.Fork p)) (λ c. Call.Task c) ≡ Some call → is_fork call ≡ false → ⊥
+  forked : (found : Option Pid) (call : Call) → of_one found (λ p. Call.Task (TaskCall.Fork p)) ≡ Some call → is_fork call ≡ false → ⊥
   forked None call is not_so = cc
   forked (Some p) call is not_so = let same : Call.Task (TaskCall.Fork p) ≡ call = cc in true≢false (ap is_fork same ∙ not_so)
 
@@ -42,14 +41,9 @@ module _ (s : Scripted) (l : ScriptLine) (ls : List ScriptLine) where
   made call (Some Verb.Write) makes not_so is = is
   made call (Some Verb.Ask) makes not_so is = is
   made call (Some Verb.Wait) makes not_so is = absurd is
-  made call (Some (Verb.Task TaskVerb.Fork)) makes not_so is = absurd (forked (pid_in s.names (word_in 1 l)) call makes not_so)
-  made call (Some (Verb.Task TaskVerb.Exit)) makes not_so is = is
-  made call (Some (Verb.Task TaskVerb.Relabel)) makes not_so is = is
-  made call (Some (Verb.Task TaskVerb.Drop)) makes not_so is = is
-  made call (Some (Verb.Task TaskVerb.Kill)) makes not_so is = is
-  made call (Some (Verb.Task TaskVerb.Take)) makes not_so is = is
-  made call (Some (Verb.Task TaskVerb.Trace)) makes not_so is = is
-  made call (Some (Verb.Tree verb)) makes not_so is = is
+  made call (Some Verb.Fork) makes not_so is = absurd (forked (pid_in s.names (word_in 1 l)) call makes not_so)
+  made call (Some Verb.Exit) makes not_so is = is
+  made call (Some (Verb.Call verb)) makes not_so is = is
 
   -- behind a line that forks nothing
   pub act_behind : (act : Act) → IsAct s.labels s.names l act → ((pid : Pid) → act ≡ Act.Fork pid → ⊥) → IsOrderly s (l ∷ ls) → IsOrderly s ls

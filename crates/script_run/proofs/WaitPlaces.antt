@@ -8,11 +8,10 @@ use Rattle.std.proofs.lemmas.List.{append-nil}
 use Rattle.std.proofs.Math.Seq.{take-suc}
 use Rattle.std.proofs.Math.ListN.{get_or-map}
 use Rattle.live_table.proofs.Lists.{long_map}
+use Rattle.script_spec.specs.declared.CallVerb.{CallVerb}
 use Rattle.script_spec.specs.declared.Verb.{Verb}
 use Rattle.script_spec.specs.declared.Verb.TheVariants as Verb
-use Rattle.script_spec.specs.declared.TaskVerb.{TaskVerb}
-use Rattle.script_spec.specs.declared.TreeVerb.{TreeVerb}
-use Rattle.script_spec.specs.Words.{task_verb_of, tree_verb_of, verb_of}
+use Rattle.script_spec.specs.Words.{call_verb_of, verb_of}
 use Rattle.script_spec.specs.Lines.{ScriptLine, word_in, verb_in}
 use Rattle.script_text.specs.Lines.{call_seen}
 use Rattle.script_text.specs.declared.line.Line.{Line}
@@ -89,15 +88,16 @@ verb_no_wait name other = elim (cases_Bool (bytes_eq name (codes "write"))) [
   | inl e ↦ simp e (λ is. let z : ◌≡◌ {A = Option Verb} (Some Verb.Write) (Some Verb.Wait) = is in cc)
   | inr e ↦ elim (cases_Bool (bytes_eq name (codes "ask"))) [
     | inl f ↦ simp (e, f) (λ is. cc)
-    | inr f ↦ simp (e, f, other) (others (task_verb_of name) (tree_verb_of name))
+    | inr f ↦ simp (e, f, other) (behind (bytes_eq name (codes "fork")) (bytes_eq name (codes "exit")) (call_verb_of name))
   ]
 ]
   where
-    others : (task : Option TaskVerb) (tree : Option TreeVerb)
-        → option_or (option_map (λ verb. Verb.Task verb) task) (option_map (λ verb. Verb.Tree verb) tree) ≡ Some Verb.Wait → ⊥
-    others (Some t) tree is = cc
-    others None (Some t) is = cc
-    others None None is = cc
+    behind : (fork exit : Bool) (call : Option CallVerb)
+        → option_or (if fork then Some Verb.Fork else (if exit then Some Verb.Exit else None)) (option_map (λ verb. Verb.Call verb) call) ≡ Some Verb.Wait → ⊥
+    behind true exit call is = cc
+    behind false true call is = cc
+    behind false false (Some verb) is = cc
+    behind false false None is = cc
 
 line_no_wait : (l : ScriptLine) → is_wait l ≡ false → verb_in l ≡ Some Verb.Wait → ⊥
 line_no_wait l other = verb_no_wait (word_in 0 l) other

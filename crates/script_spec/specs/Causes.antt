@@ -3,6 +3,7 @@ use Rattle.std.specs.Option.{option_map}
 use Rattle.text_spec.specs.Texts.{Placed}
 use Rattle.script_spec.specs.declared.TaskVerb.{TaskVerb}
 use Rattle.script_spec.specs.declared.TaskVerb.TheVariants as TaskVerb
+use Rattle.script_spec.specs.declared.CallVerb.TheVariants as CallVerb
 use Rattle.script_spec.specs.declared.Verb.{Verb}
 use Rattle.script_spec.specs.declared.Verb.TheVariants as Verb
 use Rattle.script_spec.specs.declared.Cause.{Cause}
@@ -22,35 +23,26 @@ first_cause (Some c ∷ more) = Some c
 -- whether a verb and its words name a file that is not built
 abbrev pub names_unbuilt_file : Verb → List Placed → Bool
 names_unbuilt_file Verb.Write ws = is_unbuilt_file (word_at 0 ws).bytes
-names_unbuilt_file Verb.Ask ws = false
-names_unbuilt_file Verb.Wait ws = false
-names_unbuilt_file (Verb.Task verb) ws = false
-names_unbuilt_file (Verb.Tree verb) ws = false
+names_unbuilt_file verb ws = false
 
--- whether the words behind a verb name a task as they may: a new one to fork, one that is there to signal or to trace
+-- whether the words behind a verb of tasks name a task that is there, where they signal or trace one
 abbrev pub is_task_name_good : Tasks → TaskVerb → List Placed → Bool
-is_task_name_good tasks TaskVerb.Fork ws = not (is_there tasks (word_at 0 ws).bytes)
-is_task_name_good tasks TaskVerb.Exit ws = true
 is_task_name_good tasks TaskVerb.Relabel ws = true
 is_task_name_good tasks TaskVerb.Drop ws = true
 is_task_name_good tasks TaskVerb.Kill ws = is_there tasks (word_at 0 ws).bytes
 is_task_name_good tasks TaskVerb.Take ws = true
 is_task_name_good tasks TaskVerb.Trace ws = is_there tasks (word_at 1 ws).bytes
 
+-- whether the words behind a verb name a task as they may: a new one to fork, one that is there to signal or to trace
 abbrev pub is_name_good : Tasks → Verb → List Placed → Bool
-is_name_good tasks Verb.Write ws = true
-is_name_good tasks Verb.Ask ws = true
-is_name_good tasks Verb.Wait ws = true
-is_name_good tasks (Verb.Task verb) ws = is_task_name_good tasks verb ws
-is_name_good tasks (Verb.Tree verb) ws = true
+is_name_good tasks Verb.Fork ws = not (is_there tasks (word_at 0 ws).bytes)
+is_name_good tasks (Verb.Call (CallVerb.Task verb)) ws = is_task_name_good tasks verb ws
+is_name_good tasks verb ws = true
 
 -- whether a task may wait for the task that the words behind a verb name
 abbrev pub is_wait_good : Tasks → ℕ → Verb → List Placed → Bool
-is_wait_good tasks task Verb.Write ws = true
-is_wait_good tasks task Verb.Ask ws = true
 is_wait_good tasks task Verb.Wait ws = is_latest_child tasks task (word_at 0 ws).bytes
-is_wait_good tasks task (Verb.Task verb) ws = true
-is_wait_good tasks task (Verb.Tree verb) ws = true
+is_wait_good tasks task verb ws = true
 
 -- what is wrong with the tasks of a line of this verb, behind calls that say this of tasks
 abbrev pub task_causes : Tasks → List ℕ → Verb → List Placed → List (Option Cause)

@@ -53,12 +53,8 @@ or_zero None = 0
 or_zero (Some n) = n
 
 abbrev pub text_count_of : Option Verb → Placed → ℕ
-text_count_of None count = 0
 text_count_of (Some Verb.Write) count = or_zero (number_of count.bytes)
-text_count_of (Some Verb.Ask) count = 0
-text_count_of (Some Verb.Wait) count = 0
-text_count_of (Some (Verb.Task verb)) count = 0
-text_count_of (Some (Verb.Tree verb)) count = 0
+text_count_of verb count = 0
 
 -- how many of the lines behind a line of these words are its text
 abbrev pub text_count : List Placed → ℕ

@@ -45,10 +45,7 @@ label_words (k ∷ ks) (w ∷ ws) = if stands_for_label k then w.bytes ∷ label
 -- the labels of the text of a call, where its file accepts it whole
 abbrev pub text_labels : Verb → ScriptLine → List (List ℕ)
 text_labels Verb.Write l = names_of_text (file_of (word_in 1 l)) l.text.bytes
-text_labels Verb.Ask l = []
-text_labels Verb.Wait l = []
-text_labels (Verb.Task verb) l = []
-text_labels (Verb.Tree verb) l = []
+text_labels verb l = []
 
 abbrev pub labels_by : Option Verb → ScriptLine → List (List ℕ)
 labels_by None l = []
@@ -63,12 +60,8 @@ abbrev pub table_of : List ScriptLine → List (List ℕ)
 table_of lines = with_names predefined (flat_map labels_of lines)
 
 abbrev pub rows_by : Option Verb → ScriptLine → ℕ
-rows_by None l = 0
 rows_by (Some Verb.Write) l = rows_of_text (file_of (word_in 1 l)) l.text.bytes
-rows_by (Some Verb.Ask) l = 0
-rows_by (Some Verb.Wait) l = 0
-rows_by (Some (Verb.Task verb)) l = 0
-rows_by (Some (Verb.Tree verb)) l = 0
+rows_by verb l = 0
 
 -- the rows of a journal that a call takes
 abbrev pub rows_of : ScriptLine → ℕ

@@ -3,8 +3,6 @@ use Rattle.std.specs.List.{flat_map, list_any, filter, count_by}
 use Rattle.text_spec.specs.Names.{place_of, has_name}
 use Rattle.script_spec.specs.declared.Verb.{Verb}
 use Rattle.script_spec.specs.declared.Verb.TheVariants as Verb
-use Rattle.script_spec.specs.declared.TaskVerb.{TaskVerb}
-use Rattle.script_spec.specs.declared.TaskVerb.TheVariants as TaskVerb
 use Rattle.script_spec.specs.Lines.{ScriptLine, verb_in, word_in}
 
 -- what a line does to the tasks of a script: it forks a task of this name, it is the exit of its own task, it waits for
@@ -15,22 +13,14 @@ pub data TaskChange : Type 0 where
   Awaits : List ℕ → TaskChange
   Keeps : TaskChange
 
-abbrev pub task_change : TaskVerb → ScriptLine → TaskChange
-task_change TaskVerb.Fork l = Forks (word_in 1 l)
-task_change TaskVerb.Exit l = Exits
-task_change TaskVerb.Relabel l = Keeps
-task_change TaskVerb.Drop l = Keeps
-task_change TaskVerb.Kill l = Keeps
-task_change TaskVerb.Take l = Keeps
-task_change TaskVerb.Trace l = Keeps
-
 abbrev pub change_by : Option Verb → ScriptLine → TaskChange
 change_by None l = Keeps
 change_by (Some Verb.Write) l = Keeps
 change_by (Some Verb.Ask) l = Keeps
 change_by (Some Verb.Wait) l = Awaits (word_in 1 l)
-change_by (Some (Verb.Task verb)) l = task_change verb l
-change_by (Some (Verb.Tree verb)) l = Keeps
+change_by (Some Verb.Fork) l = Forks (word_in 1 l)
+change_by (Some Verb.Exit) l = Exits
+change_by (Some (Verb.Call verb)) l = Keeps
 
 abbrev pub change_of : ScriptLine → TaskChange
 change_of l = change_by (verb_in l) l

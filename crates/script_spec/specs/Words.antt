@@ -13,6 +13,8 @@ use Rattle.script_spec.specs.declared.TaskVerb.{TaskVerb}
 use Rattle.script_spec.specs.declared.TaskVerb.TheVariants as TaskVerb
 use Rattle.script_spec.specs.declared.TreeVerb.{TreeVerb}
 use Rattle.script_spec.specs.declared.TreeVerb.TheVariants as TreeVerb
+use Rattle.script_spec.specs.declared.CallVerb.{CallVerb}
+use Rattle.script_spec.specs.declared.CallVerb.TheVariants as CallVerb
 use Rattle.script_spec.specs.declared.Verb.{Verb}
 use Rattle.script_spec.specs.declared.Verb.TheVariants as Verb
 use Rattle.script_spec.specs.declared.TraceWay.{TraceWay}
@@ -41,15 +43,19 @@ is_decimal (b ∷ bs) = list_all is_digit (b ∷ bs) && not (has_zero_in_front (
 abbrev pub number_of : List ℕ → Option ℕ
 number_of word = if is_decimal word && nat_lt (value_from 0 word) 4294967296 then Some (value_from 0 word) else None
 
--- the verbs by name, by families
+-- the verbs by name, those of object calls by families
 abbrev pub plain_verbs : List (List ℕ × Verb)
-plain_verbs = (codes "write", Verb.Write) ∷ (codes "ask", Verb.Ask) ∷ (codes "wait", Verb.Wait) ∷ []
+plain_verbs =
+    (codes "write", Verb.Write)
+    ∷ (codes "ask", Verb.Ask)
+    ∷ (codes "wait", Verb.Wait)
+    ∷ (codes "fork", Verb.Fork)
+    ∷ (codes "exit", Verb.Exit)
+    ∷ []
 
 abbrev pub task_verbs : List (List ℕ × TaskVerb)
 task_verbs =
-    (codes "fork", TaskVerb.Fork)
-    ∷ (codes "exit", TaskVerb.Exit)
-    ∷ (codes "relabel", TaskVerb.Relabel)
+    (codes "relabel", TaskVerb.Relabel)
     ∷ (codes "drop", TaskVerb.Drop)
     ∷ (codes "kill", TaskVerb.Kill)
     ∷ (codes "take", TaskVerb.Take)
@@ -68,11 +74,14 @@ task_verb_of name = lookup (bytes_eq name) task_verbs
 abbrev pub tree_verb_of : List ℕ → Option TreeVerb
 tree_verb_of name = lookup (bytes_eq name) tree_verbs
 
+-- the verb of an object call of a name, which is neither fork nor exit
+abbrev pub call_verb_of : List ℕ → Option CallVerb
+call_verb_of name =
+    option_or (option_map (λ verb. CallVerb.Task verb) (task_verb_of name)) (option_map (λ verb. CallVerb.Tree verb) (tree_verb_of name))
+
 -- the verb of a name
 abbrev pub verb_of : List ℕ → Option Verb
-verb_of name =
-    option_or (plain_verb_of name)
-    (option_or (option_map (λ verb. Verb.Task verb) (task_verb_of name)) (option_map (λ verb. Verb.Tree verb) (tree_verb_of name)))
+verb_of name = option_or (plain_verb_of name) (option_map (λ verb. Verb.Call verb) (call_verb_of name))
 
 abbrev pub is_one_of : List (List ℕ) → List ℕ → Bool
 is_one_of names name = list_any (bytes_eq name) names
@@ -128,8 +137,6 @@ is_unbuilt_file name = is_one_of unbuilt_files name
 
 -- the words behind each verb
 abbrev pub task_kinds : TaskVerb → List WordKind
-task_kinds TaskVerb.Fork = WordKind.TaskName ∷ []
-task_kinds TaskVerb.Exit = []
 task_kinds TaskVerb.Relabel = WordKind.Label ∷ []
 task_kinds TaskVerb.Drop = WordKind.Capability ∷ []
 task_kinds TaskVerb.Kill = WordKind.TaskName ∷ WordKind.Signal ∷ []
@@ -141,12 +148,17 @@ tree_kinds TreeVerb.Create = WordKind.Path ∷ []
 tree_kinds TreeVerb.Unlink = WordKind.Path ∷ []
 tree_kinds TreeVerb.List = WordKind.Path ∷ WordKind.Number ∷ []
 
+abbrev pub call_kinds : CallVerb → List WordKind
+call_kinds (CallVerb.Task verb) = task_kinds verb
+call_kinds (CallVerb.Tree verb) = tree_kinds verb
+
 abbrev pub kinds_of : Verb → List WordKind
 kinds_of Verb.Write = WordKind.File ∷ WordKind.Number ∷ []
 kinds_of Verb.Ask = WordKind.Label ∷ WordKind.Label ∷ WordKind.Modes ∷ []
 kinds_of Verb.Wait = WordKind.TaskName ∷ []
-kinds_of (Verb.Task verb) = task_kinds verb
-kinds_of (Verb.Tree verb) = tree_kinds verb
+kinds_of Verb.Fork = WordKind.TaskName ∷ []
+kinds_of Verb.Exit = []
+kinds_of (Verb.Call verb) = call_kinds verb
 
 -- the capabilities by name
 abbrev pub capabilities : List (List ℕ × Cap)

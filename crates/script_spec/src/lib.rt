@@ -10,13 +10,9 @@
 
 use thiserror::Error;
 
-/// The verbs of calls on the calling task.
+/// The verbs of calls on tasks that leave the tasks of a script as they are.
 #[derive(Clone, Copy, Debug, PartialEq, Eq)]
 pub enum TaskVerb {
-    /// `fork NAME`: makes a task with a copy of the caller's credentials.
-    Fork,
-    /// `exit`: ends the calling task.
-    Exit,
     /// `relabel LABEL`: takes another label.
     Relabel,
     /// `drop CAP`: gives a capability up.
@@ -40,8 +36,17 @@ pub enum TreeVerb {
     List,
 }
 
-/// What a line of a script does: its second word. The verbs of object calls come by families, as
-/// the calls do.
+/// The verbs of object calls, by families, as the calls come; `fork` and `exit` are not among them.
+#[derive(Clone, Copy, Debug, PartialEq, Eq)]
+pub enum CallVerb {
+    /// A call on tasks.
+    Task(TaskVerb),
+    /// A call on the file tree.
+    Tree(TreeVerb),
+}
+
+/// What a line of a script does: its second word. What changes the tasks of a script has a verb of
+/// its own; all else that makes an object call is a `Call`.
 #[derive(Clone, Copy, Debug, PartialEq, Eq)]
 pub enum Verb {
     /// `write FILE N`: writes the next N lines to a smackfs file.
@@ -50,10 +55,12 @@ pub enum Verb {
     Ask,
     /// `wait NAME`: waits for the caller's latest child; no object call.
     Wait,
-    /// A call on the calling task.
-    Task(TaskVerb),
-    /// A call on the file tree.
-    Tree(TreeVerb),
+    /// `fork NAME`: makes a task with a copy of the caller's credentials.
+    Fork,
+    /// `exit`: ends the calling task.
+    Exit,
+    /// Another object call.
+    Call(CallVerb),
 }
 
 /// How `trace` asks for a task.

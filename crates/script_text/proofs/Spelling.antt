@@ -9,7 +9,6 @@ use Rattle.rule_text.specs.declared.part.Part.{Part}
 use Rattle.rule_text.specs.Parts.{placed, lines_of, words_of}
 use Rattle.script_spec.specs.declared.Verb.{Verb}
 use Rattle.script_spec.specs.declared.Verb.TheVariants as Verb
-use Rattle.script_spec.specs.declared.TaskVerb.TheVariants as TaskVerb
 use Rattle.script_spec.specs.Words.{verb_of, kinds_of, word_at}
 use Rattle.script_spec.specs.Lines.{ScriptLine, verb_in, label_words}
 use Rattle.script_spec.specs.Tasks.{Tasks, pid_of, is_live, is_gone, is_there, is_pid, latest_child, change_of, change_by}
@@ -55,14 +54,9 @@ wait_there tasks verb l ws task is name good shape =
         let within = child_there (latest_child tasks.awaited tasks.parents task) (place_of tasks.names (word_at 0 ws).bytes) (length tasks.parents)
         (latest_there tasks.awaited tasks.parents task) good in
         rw name (omega (arith, within, shape))
-    by (Verb.Task TaskVerb.Fork) good = tt
-    by (Verb.Task TaskVerb.Exit) good = tt
-    by (Verb.Task TaskVerb.Relabel) good = tt
-    by (Verb.Task TaskVerb.Drop) good = tt
-    by (Verb.Task TaskVerb.Kill) good = tt
-    by (Verb.Task TaskVerb.Take) good = tt
-    by (Verb.Task TaskVerb.Trace) good = tt
-    by (Verb.Tree verb) good = tt
+    by Verb.Fork good = tt
+    by Verb.Exit good = tt
+    by (Verb.Call verb) good = tt
 
 -- a live task is there
 pub live_there : (tasks : Tasks) (name : List ℕ) → is_live tasks name ≡ true → pid_of tasks name < length tasks.names

@@ -9,7 +9,7 @@ use crate::tasks::TaskTable;
 use crate::verbs::{is_unbuilt_verb, kinds_of, verb_of};
 use crate::words::{bad_word, has_deep_path, is_task_name, is_unbuilt_file, word};
 use rule_text::Part;
-use script_spec::{Cause, TaskVerb, Verb};
+use script_spec::{CallVerb, Cause, TaskVerb, Verb};
 
 /// Whether a verb and the words behind it name a file that is not built.
 fn names_unbuilt_file(verb: Verb, words: &[Part<'_>]) -> bool
@@ -17,29 +17,30 @@ fn names_unbuilt_file(verb: Verb, words: &[Part<'_>]) -> bool
 {
     match verb {
         Verb::Write => is_unbuilt_file(word(words, 0).bytes),
-        Verb::Ask | Verb::Wait | Verb::Task(_) | Verb::Tree(_) => false,
+        _ => false,
+    }
+}
+
+/// Whether the words behind a verb of tasks name a task that is there, where they signal or trace one.
+fn is_task_name_good(tasks: &TaskTable<'_>, verb: TaskVerb, words: &[Part<'_>]) -> bool
+    ensures { result ≡ is_task_name_good_of (tasks_seen tasks.now) verb (map placed words.now) }
+{
+    match verb {
+        TaskVerb::Kill => tasks.is_there(word(words, 0).bytes),
+        TaskVerb::Trace => tasks.is_there(word(words, 1).bytes),
+        TaskVerb::Relabel | TaskVerb::Drop | TaskVerb::Take => true,
     }
 }
 
 /// Whether the words behind a verb name a task as they may: a new one to fork, one that is there to
 /// signal or to trace.
-fn is_task_name_good(tasks: &TaskTable<'_>, verb: TaskVerb, words: &[Part<'_>]) -> bool
-    ensures { result ≡ is_task_name_good_of (tasks_seen tasks.now) verb (map placed words.now) }
-{
-    match verb {
-        TaskVerb::Fork => !tasks.is_there(word(words, 0).bytes),
-        TaskVerb::Kill => tasks.is_there(word(words, 0).bytes),
-        TaskVerb::Trace => tasks.is_there(word(words, 1).bytes),
-        TaskVerb::Exit | TaskVerb::Relabel | TaskVerb::Drop | TaskVerb::Take => true,
-    }
-}
-
 fn is_name_good(tasks: &TaskTable<'_>, verb: Verb, words: &[Part<'_>]) -> bool
     ensures { result ≡ is_name_good_of (tasks_seen tasks.now) verb (map placed words.now) }
 {
     match verb {
-        Verb::Task(verb) => is_task_name_good(tasks, verb, words),
-        Verb::Write | Verb::Ask | Verb::Wait | Verb::Tree(_) => true,
+        Verb::Fork => !tasks.is_there(word(words, 0).bytes),
+        Verb::Call(CallVerb::Task(verb)) => is_task_name_good(tasks, verb, words),
+        _ => true,
     }
 }
 
@@ -49,7 +50,7 @@ fn is_wait_good(tasks: &TaskTable<'_>, task: usize, verb: Verb, words: &[Part<'_
 {
     match verb {
         Verb::Wait => tasks.is_latest_child(task, word(words, 0).bytes),
-        Verb::Write | Verb::Ask | Verb::Task(_) | Verb::Tree(_) => true,
+        _ => true,
     }
 }
 

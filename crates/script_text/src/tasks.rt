@@ -9,7 +9,7 @@ ghost use Rattle.script_spec.specs.Grammar.{most_tasks};
 use crate::spelled::Spelled;
 use crate::words::word;
 use rule_text::Part;
-use script_spec::{TaskVerb, Verb};
+use script_spec::Verb;
 use std::alloc::{AllocError, Global};
 
 /// The most tasks of a script.
@@ -119,15 +119,10 @@ fn change_of<'a>(call: &Spelled<'_, 'a>) -> Change<'a>
     ensures { change_seen result ≡ change_of_call (spelled_seen call.now) }
 {
     match call.verb {
-        Verb::Task(TaskVerb::Fork) => Change::Fork(word(call.words, 1)),
-        Verb::Task(TaskVerb::Exit) => Change::Exit,
+        Verb::Fork => Change::Fork(word(call.words, 1)),
+        Verb::Exit => Change::Exit,
         Verb::Wait => Change::Wait(word(call.words, 1)),
-        Verb::Task(TaskVerb::Relabel)
-        | Verb::Task(TaskVerb::Drop)
-        | Verb::Task(TaskVerb::Kill)
-        | Verb::Task(TaskVerb::Take)
-        | Verb::Task(TaskVerb::Trace) => Change::Nothing,
-        Verb::Write | Verb::Ask | Verb::Tree(_) => Change::Nothing,
+        Verb::Write | Verb::Ask | Verb::Call(_) => Change::Nothing,
     }
 }
 

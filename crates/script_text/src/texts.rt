@@ -70,7 +70,7 @@ pub fn read_text<'a>(alloc: Global, call: &Spelled<'_, 'a>) -> Result<WrittenTex
 {
     match call.verb {
         Verb::Write => read_file(alloc, word(call.words, 1).bytes, call.text.bytes),
-        Verb::Ask | Verb::Wait | Verb::Task(_) | Verb::Tree(_) => Ok(WrittenText::none(alloc)),
+        _ => Ok(WrittenText::none(alloc)),
     }
 }
 

@@ -1,7 +1,7 @@
 ghost use Rattle.std.specs.Prelude.{◌≡◌, ◌≤◌, length};
-ghost use Rattle.script_spec.specs.Words.{plain_verb_of as plain_verb_of_name, task_verb_of as task_verb_of_name, tree_verb_of as tree_verb_of_name, verb_of as verb_of_name, kinds_of as kinds_of_verb, task_kinds as kinds_of_task_verb, tree_kinds as kinds_of_tree_verb, is_one_of, unbuilt_task_verbs, unbuilt_tree_verbs, unbuilt_open_verbs, unbuilt_socket_verbs, unbuilt_message_verbs, unbuilt_semaphore_verbs, unbuilt_segment_verbs, unbuilt_host_verbs, unbuilt_mount_verbs, is_unbuilt_verb as is_unbuilt_name};
+ghost use Rattle.script_spec.specs.Words.{plain_verb_of as plain_verb_of_name, task_verb_of as task_verb_of_name, tree_verb_of as tree_verb_of_name, call_verb_of as call_verb_of_name, verb_of as verb_of_name, kinds_of as kinds_of_verb, call_kinds as kinds_of_call_verb, task_kinds as kinds_of_task_verb, tree_kinds as kinds_of_tree_verb, is_one_of, unbuilt_task_verbs, unbuilt_tree_verbs, unbuilt_open_verbs, unbuilt_socket_verbs, unbuilt_message_verbs, unbuilt_semaphore_verbs, unbuilt_segment_verbs, unbuilt_host_verbs, unbuilt_mount_verbs, is_unbuilt_verb as is_unbuilt_name};
 
-use script_spec::{TaskVerb, TreeVerb, Verb, WordKind};
+use script_spec::{CallVerb, TaskVerb, TreeVerb, Verb, WordKind};
 
 fn plain_verb_of(name: &[u8]) -> Option<Verb>
     ensures { result ≡ plain_verb_of_name name.now }
@@ -12,6 +12,10 @@ fn plain_verb_of(name: &[u8]) -> Option<Verb>
         Some(Verb::Ask)
     } else if name == b"wait".as_slice() {
         Some(Verb::Wait)
+    } else if name == b"fork".as_slice() {
+        Some(Verb::Fork)
+    } else if name == b"exit".as_slice() {
+        Some(Verb::Exit)
     } else {
         None
     }
@@ -20,11 +24,7 @@ fn plain_verb_of(name: &[u8]) -> Option<Verb>
 fn task_verb_of(name: &[u8]) -> Option<TaskVerb>
     ensures { result ≡ task_verb_of_name name.now }
 {
-    if name == b"fork".as_slice() {
-        Some(TaskVerb::Fork)
-    } else if name == b"exit".as_slice() {
-        Some(TaskVerb::Exit)
-    } else if name == b"relabel".as_slice() {
+    if name == b"relabel".as_slice() {
         Some(TaskVerb::Relabel)
     } else if name == b"drop".as_slice() {
         Some(TaskVerb::Drop)
@@ -53,6 +53,18 @@ fn tree_verb_of(name: &[u8]) -> Option<TreeVerb>
     }
 }
 
+fn call_verb_of(name: &[u8]) -> Option<CallVerb>
+    ensures { result ≡ call_verb_of_name name.now }
+{
+    if let Some(verb) = task_verb_of(name) {
+        return Some(CallVerb::Task(verb));
+    }
+    if let Some(verb) = tree_verb_of(name) {
+        return Some(CallVerb::Tree(verb));
+    }
+    None
+}
+
 /// The verb with this name; None where there is none.
 pub fn verb_of(name: &[u8]) -> Option<Verb>
     ensures { result ≡ verb_of_name name.now }
@@ -60,11 +72,8 @@ pub fn verb_of(name: &[u8]) -> Option<Verb>
     if let Some(verb) = plain_verb_of(name) {
         return Some(verb);
     }
-    if let Some(verb) = task_verb_of(name) {
-        return Some(Verb::Task(verb));
-    }
-    if let Some(verb) = tree_verb_of(name) {
-        return Some(Verb::Tree(verb));
+    if let Some(verb) = call_verb_of(name) {
+        return Some(Verb::Call(verb));
     }
     None
 }
@@ -180,8 +189,6 @@ fn task_kinds(verb: TaskVerb) -> &'static [WordKind]
     ensures few { length result.now ≤ 3 }
 {
     match verb {
-        TaskVerb::Fork => &[WordKind::TaskName],
-        TaskVerb::Exit => &[],
         TaskVerb::Relabel => &[WordKind::Label],
         TaskVerb::Drop => &[WordKind::Capability],
         TaskVerb::Kill => &[WordKind::TaskName, WordKind::Signal],
@@ -201,6 +208,16 @@ fn tree_kinds(verb: TreeVerb) -> &'static [WordKind]
     }
 }
 
+fn call_kinds(verb: CallVerb) -> &'static [WordKind]
+    ensures kinds { result.now ≡ kinds_of_call_verb verb }
+    ensures few { length result.now ≤ 3 }
+{
+    match verb {
+        CallVerb::Task(verb) => task_kinds(verb),
+        CallVerb::Tree(verb) => tree_kinds(verb),
+    }
+}
+
 /// The kinds of the words behind a verb.
 pub fn kinds_of(verb: Verb) -> &'static [WordKind]
     ensures kinds { result.now ≡ kinds_of_verb verb }
@@ -210,7 +227,8 @@ pub fn kinds_of(verb: Verb) -> &'static [WordKind]
         Verb::Write => &[WordKind::File, WordKind::Number],
         Verb::Ask => &[WordKind::Label, WordKind::Label, WordKind::Modes],
         Verb::Wait => &[WordKind::TaskName],
-        Verb::Task(verb) => task_kinds(verb),
-        Verb::Tree(verb) => tree_kinds(verb),
+        Verb::Fork => &[WordKind::TaskName],
+        Verb::Exit => &[],
+        Verb::Call(verb) => call_kinds(verb),
     }
 }

@@ -6,7 +6,6 @@ use Rattle.std.proofs.lemmas.List.Folds.{list_any-append}
 use Rattle.smack_base.specs.declared.ids.Pid.{Pid}
 use Rattle.script_spec.specs.declared.Verb.{Verb}
 use Rattle.script_spec.specs.declared.Verb.TheVariants as Verb
-use Rattle.script_spec.specs.declared.TaskVerb.TheVariants as TaskVerb
 use Rattle.script_spec.specs.Lines.{ScriptLine, word_in, verb_in}
 use Rattle.script_spec.specs.Tasks.{change_by, change_of}
 use Rattle.replay_spec.specs.Calls.{pid_in}
@@ -88,14 +87,9 @@ module _ (names : List (List ℕ)) (c : ℕ) (P : Option (List ℕ) → Type 0) 
       by (Some Verb.Write) e = kept X new
       by (Some Verb.Ask) e = kept X new
       by (Some Verb.Wait) e = waited X new (pid_in names (word_in 1 l)) (λ is. not_so [] (e, is))
-      by (Some (Verb.Task TaskVerb.Fork)) e = forked X new (pid_in names (word_in 1 l))
-      by (Some (Verb.Task TaskVerb.Exit)) e = kept X new
-      by (Some (Verb.Task TaskVerb.Relabel)) e = kept X new
-      by (Some (Verb.Task TaskVerb.Drop)) e = kept X new
-      by (Some (Verb.Task TaskVerb.Kill)) e = kept X new
-      by (Some (Verb.Task TaskVerb.Take)) e = kept X new
-      by (Some (Verb.Task TaskVerb.Trace)) e = kept X new
-      by (Some (Verb.Tree verb)) e = kept X new
+      by (Some Verb.Fork) e = forked X new (pid_in names (word_in 1 l))
+      by (Some Verb.Exit) e = kept X new
+      by (Some (Verb.Call verb)) e = kept X new
 
 module _ (s : Scripted) (child : Pid) where
   -- lines that do not wait for an open child are orderly without it
@@ -128,7 +122,7 @@ module _ (s : Scripted) (child : Pid) where
       behind a.left ls l rest none.1 a.new waits a.holds
 
   -- a line that forks a child
-  module _ (f : ScriptLine) (verb : verb_in f ≡ Some (Verb.Task TaskVerb.Fork)) (forks : pid_in s.names (word_in 1 f) ≡ Some child) where
+  module _ (f : ScriptLine) (verb : verb_in f ≡ Some Verb.Fork) (forks : pid_in s.names (word_in 1 f) ≡ Some child) where
     opened : (ls : List ScriptLine) → IsOrderly s (f ∷ ls) → IsOrderlyBehind s (Some (child.0 ∷ [])) ls
     opened ls is = subst (λ found. IsOrderlyBehind s (with_open [] found) ls) forks
         (subst (λ v. IsOrderlyBehind s (open_after s.names [] (change_by v f)) ls) verb is.1)

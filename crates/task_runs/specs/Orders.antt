@@ -7,7 +7,7 @@ use Rattle.script_spec.specs.declared.Verb.TheVariants as Verb
 use Rattle.script_spec.specs.Lines.{ScriptLine, word_in, verb_in}
 use Rattle.script_spec.specs.Tasks.{TaskChange, Forks, Exits, Awaits, Keeps, change_of}
 use Rattle.record_spec.specs.declared.AskedWhat.TheVariants as AskedWhat
-use Rattle.replay_spec.specs.Calls.{pid_in, task_call, tree_call}
+use Rattle.replay_spec.specs.Calls.{pid_in, made_call}
 use Rattle.replay_spec.specs.Replays.{modes_in}
 use Rattle.legal_spec.specs.Lines.{IsAskedOfLine}
 use Rattle.task_runs.specs.Scripts.{Scripted, lines_by}
@@ -20,8 +20,9 @@ knows_words labels names l (Some Verb.Write) = true
 knows_words labels names l (Some Verb.Ask) =
     is_some (id_of labels (word_in 1 l)) && (is_some (id_of labels (word_in 2 l)) && is_some (modes_in (word_in 3 l)))
 knows_words labels names l (Some Verb.Wait) = is_some (pid_in names (word_in 1 l))
-knows_words labels names l (Some (Verb.Task verb)) = is_some (task_call labels names l verb)
-knows_words labels names l (Some (Verb.Tree verb)) = is_some (tree_call l verb)
+knows_words labels names l (Some Verb.Fork) = is_some (pid_in names (word_in 1 l))
+knows_words labels names l (Some Verb.Exit) = true
+knows_words labels names l (Some (Verb.Call verb)) = is_some (made_call labels names l verb)
 
 -- a line has a verb, and such words
 abbrev pub is_known : List (List ℕ) → List (List ℕ) → ScriptLine → Bool

@@ -5,3 +5,6 @@ returns-in-Some-Ask c = c.question.ensures c.args.names.now
 
 pub returns-in-Some-Wait : goal.returns-in-Some-Wait
 returns-in-Some-Wait c = c.wait.ensures c.args.labels.now
+
+pub returns-in-Some-Fork : goal.returns-in-Some-Fork
+returns-in-Some-Fork c = c.fork.ensures c.args.labels.now
