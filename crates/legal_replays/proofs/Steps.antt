@@ -12,7 +12,7 @@ use Rattle.legal_spec.specs.Laws.{AreRisingSteps, StepsAreJudged}
 use Rattle.legal_replays.proofs.Places.{same_some}
 
 -- what is shown as it is
-shown_as_is : (shows : Verdict → Verdict → Type 0) → ((v : Verdict) → shows v v) → (vs ws : List Verdict) → vs ≡ ws → AreShownAs shows vs ws
+pub shown_as_is : (shows : Verdict → Verdict → Type 0) → ((v : Verdict) → shows v v) → (vs ws : List Verdict) → vs ≡ ws → AreShownAs shows vs ws
 shown_as_is shows same vs ws is = subst (AreShownAs shows vs) is (by vs)
   where
     by : (us : List Verdict) → AreShownAs shows us us

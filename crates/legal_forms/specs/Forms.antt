@@ -1,0 +1,141 @@
+use Rattle.std.specs.Prelude.{ℕ, zero, suc, ◌+◌, Bool, true, false, not, ◌&&◌, ◌||◌, ◌==◌, List, [], ◌∷◌, Option, Some, None, length, take, is_some, nat_lt, nat_le, slice_index_or}
+use Rattle.std.specs.List.{list_all, list_any}
+use Rattle.smack_base.specs.declared.ids.Pid.{Pid}
+use Rattle.smack_base.specs.declared.cap.Cap.TheVariants as Cap
+use Rattle.rules_spec.specs.declared.Batch.{Batch}
+use Rattle.rules_spec.specs.Cases.{verdict_of_cases}
+use Rattle.rules_spec.specs.Creds.{is_effective}
+use Rattle.file_spec.specs.declared.Refusal.{Refusal}
+use Rattle.file_spec.specs.declared.Refusal.TheVariants as Refusal
+use Rattle.file_spec.specs.Writes.{rule_file}
+use Rattle.text_spec.specs.Names.{place_of}
+use Rattle.script_spec.specs.Words.{is_task_name}
+use Rattle.world_spec.specs.declared.Entry.{Entry}
+use Rattle.world_spec.specs.Worlds.{World, world_first}
+use Rattle.world_spec.specs.Replays.{version_of, step_of, after_entry, cred_at}
+use Rattle.record_spec.specs.declared.AskedLine.{AskedLine}
+use Rattle.record_spec.specs.declared.AskedWhat.{AskedWhat}
+use Rattle.record_spec.specs.declared.AskedWhat.TheVariants as AskedWhat
+use Rattle.record_spec.specs.declared.RunRecord.{RunRecord}
+use Rattle.legal_spec.specs.Legal.{rows_of}
+use Rattle.legal_forms.specs.Same.{same_verdict, same_checks, same_reply}
+use Rattle.legal_forms.specs.MadeCalls.{MadeCall, made_calls, count_of, call_at, MadeFork, forks_of, has_number, task_numbers, version_told, descendants}
+
+-- a test of each element with its place, from this place on
+abbrev pub all_from : {X : Type 0} → (ℕ → X → Bool) → ℕ → List X → Bool
+all_from test i [] = true
+all_from test i (x ∷ xs) = test i x && all_from test (i + 1) xs
+
+-- a test of each element with those behind it
+abbrev pub all_behind : {X : Type 0} → (X → List X → Bool) → List X → Bool
+all_behind test [] = true
+all_behind test (x ∷ xs) = test x xs && all_behind test xs
+
+-- the names are names of tasks, and distinct
+abbrev pub are_names : List (List ℕ) → Bool
+are_names names = list_all is_task_name names && (all_from (λ pid name. place_of names name == pid) 0 names && nat_lt 0 (length names))
+
+-- so many numbers from this one on have a call each
+abbrev pub has_each : (ℕ → Option MadeCall) → ℕ → ℕ → Bool
+has_each call seq zero = true
+has_each call seq (suc n) = is_some (call seq) && has_each call (seq + 1) n
+
+abbrev pub are_numbered : RunRecord → Bool
+are_numbered r =
+    list_all (λ task. has_each (call_at (made_calls r) task) 1 (count_of (made_calls r) task)) (task_numbers r.history)
+
+-- a later object call of a task has a greater number
+abbrev pub rises_behind : Entry → List Entry → Bool
+rises_behind e es = list_all (λ f. not (e.task == f.task) || nat_lt e.seq f.seq) es
+
+abbrev pub comes_before : AskedLine → AskedLine → Bool
+comes_before a b = nat_lt a.task b.task || ((a.task == b.task) && nat_lt a.seq b.seq)
+
+abbrev pub are_of_tasks : RunRecord → Bool
+are_of_tasks r = list_all (λ c. has_number (task_numbers r.history) c.task) (made_calls r)
+
+-- neither an entry nor one behind it made the task of the entry
+abbrev pub was_forked_before : Entry → List Entry → Bool
+was_forked_before e es = not (list_any (λ f. f.number == e.task) (forks_of (e ∷ es)))
+
+abbrev pub is_each_call_once : RunRecord → Bool
+is_each_call_once r = are_of_tasks r && (are_numbered r && (all_behind rises_behind r.history
+    && (all_behind (λ a behind. list_all (comes_before a) behind) r.asked && all_behind was_forked_before r.history)))
+
+-- an entry in the world that those before it leave, behind one with this version
+abbrev pub is_entry : List Batch → World → ℕ → Entry → Bool
+is_entry journal w version e = same_checks e.checks (step_of journal w e).checks && (same_reply e.reply (step_of journal w e).reply
+    && (nat_le version e.version && nat_le e.version (length journal)))
+
+abbrev pub are_entries : List Batch → World → ℕ → List Entry → Bool
+are_entries journal w version [] = true
+are_entries journal w version (e ∷ es) = is_entry journal w version e && are_entries journal (after_entry journal w e) e.version es
+
+abbrev pub are_judged : RunRecord → Bool
+are_judged r = are_entries r.journal world_first 0 r.history
+
+abbrev pub are_privileged : RunRecord → Bool
+are_privileged r =
+    all_from (λ i b. is_effective (cred_at r.journal r.history b.task b.seq) Cap.MacAdmin (version_of r.journal i)) 0 r.journal
+
+abbrev pub is_refused : RunRecord → AskedLine → List ℕ → Refusal → Bool
+is_refused r a file Refusal.NoSuchFile = true
+is_refused r a file Refusal.TooLong = true
+is_refused r a file (Refusal.BadLine bad) = true
+is_refused r a file (Refusal.UnknownLabel line) = true
+is_refused r a file Refusal.NotPrivileged =
+    is_some (rule_file file) && not (is_effective (cred_at r.journal r.history a.task a.seq) Cap.MacAdmin (version_of r.journal a.version))
+is_refused r a file (Refusal.JournalFull rows) = is_some (rule_file file) && (rows == rows_of (take a.version r.journal))
+
+abbrev pub is_so : RunRecord → AskedLine → AskedWhat → Bool
+is_so r a (AskedWhat.Ask v) = same_verdict v (verdict_of_cases (version_of r.journal a.version) v.subject v.object v.modes)
+is_so r a (AskedWhat.Refused file fault) = is_refused r a file fault
+is_so r a (AskedWhat.Wait pid) = true
+
+abbrev pub are_answered : RunRecord → Bool
+are_answered r = list_all (λ a. nat_le a.version (length r.journal) && is_so r a a.what) r.asked
+
+-- a call, where there is one, is not older than what its task had seen or been told of
+abbrev pub is_fresh_call : ℕ → Option MadeCall → Bool
+is_fresh_call told None = false
+is_fresh_call told (Some c) = nat_le told c.needs
+
+abbrev pub version_reached : ℕ → Option MadeCall → ℕ
+version_reached told None = told
+version_reached told (Some c) = c.reaches
+
+-- the walk over so many numbers from this one on, with the version that the task has seen or been told of
+abbrev pub are_fresh_calls : (ℕ → Option MadeCall) → ℕ → ℕ → ℕ → Bool
+are_fresh_calls call told seq zero = true
+are_fresh_calls call told seq (suc n) = is_fresh_call told (call seq) && are_fresh_calls call (version_reached told (call seq)) (seq + 1) n
+
+abbrev pub has_fresh_calls : RunRecord → ℕ → Bool
+has_fresh_calls r task =
+    are_fresh_calls (call_at (made_calls r) task) (version_told (forks_of r.history) task) 1 (count_of (made_calls r) task)
+
+-- an entry of the waiter behind its wait, and those behind it, are of no task among these
+abbrev pub none_late : AskedLine → List ℕ → Entry → List Entry → Bool
+none_late a below f es =
+    not ((f.task == a.task) && nat_lt a.seq f.seq) || list_all (λ e. not (has_number below e.task)) (f ∷ es)
+
+-- a wait tells of all that these tasks did
+abbrev pub is_told : RunRecord → AskedLine → List ℕ → Bool
+is_told r a below = list_all (λ c. not (has_number below c.task) || nat_le c.reaches a.version) (made_calls r)
+    && all_behind (none_late a below) r.history
+
+-- the fork made the awaited task, by an earlier call of the waiter
+abbrev pub is_awaited : AskedLine → Pid → MadeFork → Bool
+is_awaited a pid f = (f.pid.0 == pid.0) && ((f.parent == a.task) && nat_lt f.seq a.seq)
+
+abbrev pub has_waited : RunRecord → AskedLine → AskedWhat → Bool
+has_waited r a (AskedWhat.Ask v) = true
+has_waited r a (AskedWhat.Refused file fault) = true
+has_waited r a (AskedWhat.Wait pid) =
+    list_any (λ f. is_awaited a pid f && is_told r a (descendants (forks_of r.history) f.number)) (forks_of r.history)
+
+abbrev pub is_fresh : RunRecord → Bool
+is_fresh r = list_all (has_fresh_calls r) (task_numbers r.history) && list_all (λ a. has_waited r a a.what) r.asked
+
+-- the record is legal
+abbrev pub is_legal : RunRecord → Bool
+is_legal r = are_names r.names && (is_each_call_once r && (are_judged r && (are_privileged r && (are_answered r && is_fresh r))))

@@ -1,0 +1,4 @@
+pub mod Same
+pub mod MadeCalls
+pub mod Forms
+pub mod Laws

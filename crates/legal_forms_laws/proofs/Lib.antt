@@ -1,0 +1,5 @@
+pub mod Quantified
+pub mod Same
+pub mod Names
+pub mod Entries
+pub mod Lines

@@ -1,0 +1,26 @@
+//! The tests of `legal_forms` decide the clauses of a legal record.
+//!
+//! Laws of the definitions alone. A law is the contract of a function without a body.
+#![tactic(auto)]
+
+ghost use Rattle.legal_forms.specs.Laws.{NamesAreDecided, EntriesAreDecided, BatchesAreDecided, LinesAreDecided};
+
+/// Whether the names of a record are names of tasks, and distinct.
+pub fn names_are_decided()
+    ensures { NamesAreDecided }
+{}
+
+/// Whether its object calls are judged: each at its place.
+pub fn entries_are_decided()
+    ensures { EntriesAreDecided }
+{}
+
+/// Whether its batches were published by tasks with the privilege.
+pub fn batches_are_decided()
+    ensures { BatchesAreDecided }
+{}
+
+/// Whether its asked, refused and waited lines are so.
+pub fn lines_are_decided()
+    ensures { LinesAreDecided }
+{}
