@@ -1,5 +1,5 @@
 -- The slots that a seat holds, and what a join and a turn come to.
-use Rattle.std.proofs.Common.{◌≡◌, ℕ, ◌+◌, List, [], ◌∷◌, ◌++◌, length, sym, refl, ap, ap₂, ◌∙◌, subst, ⊎_elim, arith, true, false, Option, Some}
+use Rattle.std.proofs.Common.{◌≡◌, ℕ, ◌+◌, ◌%◌, List, [], ◌∷◌, ◌++◌, length, sym, refl, ap, ap₂, ◌∙◌, subst, ⊎_elim, arith, true, false, Option, Some}
 use Rattle.rules_spec.specs.declared.Batch.{Batch}
 use Rattle.live_table.specs.declared.view.View.{View}
 use Rattle.live_table.specs.Lists.{Begins, Has}
@@ -10,7 +10,7 @@ use Rattle.live_table.specs.Plays.{Saw, with_pen, Heard, TookTurn, joined, at_tu
 use Rattle.atomic_table.specs.Table.{Me, step, Allows}
 use mathlib.Core.Option.{none}
 use Rattle.live_table.proofs.TurnSteps.{gives_turn}
-use Rattle.live_table.specs.Seats.{Hears, Sees, Turns, IsSeat, AreWhole}
+use Rattle.live_table.specs.Seats.{SeatValue, Hears, Sees, Turns, IsSeat, IsWhole, Closes, AreWhole, with_loads}
 use Rattle.live_table.proofs.Lists.{begins_self, begins_trans, begins_length, rows-append, has_either}
 
 pub slots_none : {X : Type 0} (l : List (ℕ × X)) → slots_of l ≡ [] → l ≡ []
@@ -32,6 +32,9 @@ module _ {S E : Type 0} (m : Means S E) where
     turn = ap (λ (y : View E). y.turn) h.view;
     noticed = ap (λ (y : View E). y.noticed) h.view;
     known = ap (λ (y : View E). y.known) h.view;
+    loads = ap (λ (y : View E). y.loads) h.view;
+    looks = ap (λ (y : View E). y.looks) h.view;
+    pens = ap (λ (y : View E). y.pens) h.view;
     journal = h.journal;
     history = h.history;
     told_journal = h.told_journal;
@@ -53,7 +56,17 @@ module _ {S E : Type 0} (m : Means S E) where
         let all : (k : ℕ) → Has k v.numbers
         → Has k w.numbers = λ k h. subst (λ (y : View E). Has k y.numbers) (sym t.view) h in record {
           view = s.same
-              ∙ (ap (λ (y : View E). record y { journal = w'.journal }) t.view ∙ ap (at_turn v w'.journal) (sym same));
+              ∙ ((λ i. record (t.view i) {
+                journal = w'.journal;
+                loads = w.loads;
+                looks = w.looks + 1;
+                misses = w.misses + r % 2;
+              })
+              ∙ (λ i. record (at_turn v w'.journal (sym same i)) {
+                loads = (sym s.same i).loads;
+                looks = (sym s.same i).looks;
+                misses = (sym s.same i).misses;
+              }));
           journal = begins_trans s.more t.journal;
           history = subst (λ l. Begins l v.history) (sym same) t.history;
           is = t.is ∙ sym same;
@@ -85,18 +98,62 @@ module _ {S E : Type 0} (m : Means S E) where
 pub sees_self : {E : Type 0} (v : View E) → Sees v v
 sees_self v = record { view = refl; journal = begins_self v.journal; batches = λ _ _. refl }
 
-pub sees_more : {E : Type 0} (u v w : View E) (r : ℕ) → Sees u v → Saw v r w → Sees u w
-sees_more {E} u v w r a s = record {
-  view = s.same ∙ ap (λ (y : View E). record y { journal = w.journal }) a.view;
-  journal = begins_trans s.more a.journal;
-  batches = λ k h. s.own k (subst (λ (y : View E). Has k y.numbers) (sym a.view) h) ∙ a.batches k h;
+-- a seat that has so many rows loaded has its own number of them loaded
+pub loaded_own : {E : Type 0} (s : SeatValue E) {t : SeatValue E} {n : ℕ} → t ≡ with_loads n s → t ≡ with_loads t.view.loads s
+loaded_own {E} s {t} {n} now = now ∙ ap (λ k. with_loads k s) (sym (ap (λ (z : SeatValue E). z.view.loads) now))
+
+-- a seat that has loaded more rows, and then more
+pub loaded_more : {E : Type 0} (s : SeatValue E) {t u : SeatValue E} {n : ℕ} → t ≡ with_loads t.view.loads s → u ≡ with_loads n t
+    → u ≡ with_loads u.view.loads s
+loaded_more {E} s {t} {u} {n} before now = loaded_own s (now ∙ ap (with_loads n) before)
+
+-- what a seat loaded is no matter to what it may close, and to what it is handed
+pub whole_loaded : {S E : Type 0} (m : Means S E) (v : View E) (n : ℕ) → IsWhole m v
+    → IsWhole m (record v { loads = n })
+whole_loaded m v n w = record { penless = w.penless; turnless = w.turnless; first = w.first; closed = w.closed }
+
+pub closes_loaded : {S E : Type 0} (m : Means S E) (v : View E) (n : ℕ) (x : S) → Closes m (record v { loads = n }) x
+    → Closes m v x
+closes_loaded m v n x c = record {
+  history = c.history;
+  stands = c.stands;
+  legal = c.legal;
+  recent = c.recent;
+  tasks = c.tasks;
 }
 
-pub sees_pen : {E : Type 0} (u v w : View E) (r : ℕ) → Sees u v → Saw (with_pen v) r w → Sees (with_pen u) w
-sees_pen {E} u v w r a s = record {
-  view = s.same ∙ ap (λ (y : View E). record y { journal = w.journal; pen = true; filled = [] }) a.view;
-  journal = begins_trans s.more a.journal;
-  batches = λ k h. s.own k (subst (λ (y : View E). Has k y.numbers) (sym a.view) h) ∙ a.batches k h;
+pub sees_loaded : {E : Type 0} {v w : View E} (n : ℕ) → Sees v w → Sees v (record w { loads = n })
+sees_loaded {E} {v} {w} n s = record {
+  view = ap (λ (y : View E). record y { loads = n }) s.view;
+  journal = s.journal;
+  batches = s.batches;
+}
+
+pub turns_loaded : {S E : Type 0} (m : Means S E) {v w : View E} {x : S} (n : ℕ) → Turns m v w x
+    → Turns m v (record w { loads = n }) x
+turns_loaded {S} {E} m {v} {w} {x} n t = record {
+  view = ap (λ (y : View E). record y { loads = n }) t.view;
+  journal = t.journal;
+  history = t.history;
+  is = t.is;
+  stands = t.stands;
+  legal = t.legal;
+  recent = t.recent;
+  batches = t.batches;
+  entries = t.entries;
+}
+
+-- a look is looks
+pub saw_sees : {E : Type 0} (v w : View E) (r : ℕ) → Saw v r w → Sees v w
+saw_sees {E} v w r s = record {
+  view = s.same ∙ (λ i. record v {
+    journal = w.journal;
+    loads = (sym s.same i).loads;
+    looks = (sym s.same i).looks;
+    misses = (sym s.same i).misses;
+  });
+  journal = s.more;
+  batches = s.own;
 }
 
 -- what a seat keeps, after it has published whole batches
@@ -132,14 +189,19 @@ gives_seat {S} {E} me me' number rows filled es s is = subst
 
 pub sees_then : {E : Type 0} (u v w : View E) → Sees u v → Sees v w → Sees u w
 sees_then {E} u v w a s = record {
-  view = s.view ∙ ap (λ (y : View E). record y { journal = w.journal }) a.view;
+  view = s.view
+      ∙ ap (λ (y : View E). record y { journal = w.journal; loads = w.loads; looks = w.looks; misses = w.misses }) a.view;
   journal = begins_trans s.journal a.journal;
   batches = λ k h. s.batches k (subst (λ (y : View E). Has k y.numbers) (sym a.view) h) ∙ a.batches k h;
 }
 
-pub sees_then_pen : {E : Type 0} (u v w : View E) → Sees u v → Sees (with_pen v) w → Sees (with_pen u) w
-sees_then_pen {E} u v w a s = record {
-  view = s.view ∙ ap (λ (y : View E). record y { journal = w.journal; pen = true; filled = [] }) a.view;
-  journal = begins_trans s.journal a.journal;
-  batches = λ k h. s.batches k (subst (λ (y : View E). Has k y.numbers) (sym a.view) h) ∙ a.batches k h;
+-- what looks show before the pen is taken, they show after it
+pub sees_before_pen : {E : Type 0} (u v : View E) → Sees u v → Sees (with_pen u) (with_pen v)
+sees_before_pen {E} u v a = record {
+  view = ap with_pen a.view;
+  journal = a.journal;
+  batches = a.batches;
 }
+
+pub sees_then_pen : {E : Type 0} (u v w : View E) → Sees u v → Sees (with_pen v) w → Sees (with_pen u) w
+sees_then_pen {E} u v w a s = sees_then (with_pen u) (with_pen v) w (sees_before_pen u v a) s

@@ -80,6 +80,10 @@ module _ {S E : Type 0} (m : Means S E) where
     noticed = false;
     marked = b;
     known = v.known;
+    loads = 0;
+    looks = 0;
+    pens = 0;
+    misses = 0;
   }
 
   abbrev noticing : View E → Bool → View E

@@ -72,10 +72,28 @@ module _ {S E : Type 0} (m : Means S E) where
     fits = each_set (Fits m r.core) s.views me w mine (λ j d _. r.fits j d);
   }
 
+  -- what the seat counts is no matter to the rule
+  fits_counting : (c : Core E) (me : ℕ) (v : View E) → Fits m c me v → (loads misses : ℕ)
+      → Fits m c me (record v { loads = loads; misses = misses })
+  fits_counting c me v f loads misses = record {
+    seen = f.seen;
+    told = f.told;
+    met = f.met;
+    heard = f.heard;
+    known = f.known;
+    owns = f.owns;
+    told_owns = f.told_owns;
+    apart = f.apart;
+    pen = f.pen;
+    turn = f.turn;
+    mark = f.mark;
+    bare = f.bare;
+  }
+
   -- the seat sees the whole journal
   pub fits_seeing : (c : Core E) (me : ℕ) (v : View E) → last_version m c.history ≤ length c.journal → Fits m c me v
-      → Fits m c me (record v { journal = c.journal })
-  fits_seeing c me v recent f = record {
+      → (looks misses : ℕ) → Fits m c me (record v { journal = c.journal; looks = looks; misses = misses })
+  fits_seeing c me v recent f looks misses = record {
     seen = begins_self c.journal;
     told = f.told;
     met = f.met;
@@ -124,7 +142,11 @@ module _ {S E : Type 0} (m : Means S E) where
       ]) refl
 
   pub saw_all : (s : St) (r : Rule m s) (me : ℕ) (v : View E) → get_elem? s.views me ≡ some v
-      → Saw v (get_or s.words 1 0) (record v { journal = r.core.journal })
+      → Saw v (get_or s.words 1 0) (record v {
+        journal = r.core.journal;
+        looks = v.looks + 1;
+        misses = v.misses + get_or s.words 1 0 % 2;
+      })
   saw_all s r me v at = let c = r.core in let f = r.fits me v at in record {
     same = refl;
     more = f.seen;
@@ -136,28 +158,31 @@ module _ {S E : Type 0} (m : Means S E) where
 
   pub sees : (slots id : ℕ) (me : M) → Allows (Rule m) slots id me 1 (λ x. x) (saw (step slots 1 0 0 none) me)
   sees slots id me s r _ at _ =
-      let c = r.core in let f = r.fits id me.0 at in let w : View E = record me.0 { journal = c.journal } in (
+      let c = r.core in let f = r.fits id me.0 at in let x : ℕ = get_or s.words 1 0 in
+      let w : View E = record me.0 { journal = c.journal; looks = me.0.looks + 1; misses = me.0.misses + x % 2 } in (
         w,
         keeps,
         tt,
-        unmoved s r 1 id me.1 me.0 w at (fits_seeing c id me.0 r.recent f) refl refl refl,
+        unmoved s r 1 id me.1 me.0 w at (fits_seeing c id me.0 r.recent f w.looks w.misses) refl refl refl,
         (saw_all s r id me.0 at, refl),
       )
 
   pub reads : (slots id : ℕ) (me : M) (i : ℕ) → i < rows_of me.0.journal
       → Allows (Rule m) slots id me (i + 3) (λ x. x) (read (step slots (i + 3) 0 0 none) me)
   reads slots id me i inside s r _ at _ = let c = r.core in let f = r.fits id me.0 at in
+      let w : View E = record me.0 { loads = me.0.loads + 1 } in
       let all : Begins r.rows (words_of me.0.journal) = begins_trans
       (begins_trans r.shown (record { rest = c.filled; is = refl })) (words_begin f.seen) in
       let back : (i + 3) - 3 ≡ i = omega arith in let front : i + 3 ≡ 3 + i = omega arith in
       let row : get_or s.words (i + 3) 0 ≡ get_or r.rows i 0 = ap₂ (λ ws (x : ℕ). get_or ws x 0) r.words front
       ∙ get_or-append-add
       (drawn_count m c ∷ (2 * rows_of c.journal + bit c.penned) ∷ bit c.turned ∷ []) r.rows i 0 in (
-        me.0,
+        w,
         keeps,
         tt,
-        unmoved s r (i + 3) id me.1 me.0 me.0 at f refl refl refl,
+        unmoved s r (i + 3) id me.1 me.0 w at (fits_counting c id me.0 f w.loads w.misses) refl refl refl,
         (
+          refl,
           refl,
           row ∙ (ap (λ l. get_or l i 0) all.is
               ∙ (get_or-append (words_of me.0.journal) all.rest 0 i inside
@@ -202,7 +227,7 @@ module _ {S E : Type 0} (m : Means S E) where
       (λ hit. let c = r.core in
       let f = r.fits id me.0 at in
       let v : View E = with_pen me.0 in
-      let w : View E = record v { journal = c.journal } in
+      let w : View E = record v { journal = c.journal; looks = v.looks + 1; misses = v.misses + n % 2 } in
       let c' : Core E = record c { penned = true; penner = id; filled = [] } in
       let now : 2 * rows_of c.journal + bit c.penned ≡ old = sym (ap (λ ws. get_or ws 1 0) r.words) ∙ hit in
       let free = unpenned (rows_of c.journal) old c.penned now even in
@@ -212,7 +237,7 @@ module _ {S E : Type 0} (m : Means S E) where
       (sym now ∙ ap (λ b. 2 * rows_of c.journal + bit b) free)
       ∙ (let q : ℕ = rows_of c.journal in let z : (2 * q + 0) + 1 ≡ 2 * q + 1 = omega arith in z) in
       let base = fits_pen c true id [] id me.0 (apart id me.0 at) f in
-      let seeing = fits_seeing c' id me.0 r.recent base in (
+      let seeing = fits_seeing c' id me.0 r.recent base w.looks w.misses in (
         w,
         keeps,
         tt,
@@ -272,11 +297,11 @@ module _ {S E : Type 0} (m : Means S E) where
           (λ miss. absurd (miss hit)),
         ),
       ))
-      (λ miss. (
-        me.0,
+      (λ miss. let w : View E = record me.0 { misses = me.0.misses + 1 } in (
+        w,
         keeps,
         tt,
-        unmoved s r 1 id me.1 me.0 me.0 at (r.fits id me.0 at) refl refl refl,
+        unmoved s r 1 id me.1 me.0 w at (fits_counting r.core id me.0 (r.fits id me.0 at) w.loads w.misses) refl refl refl,
         (refl, (λ hit. absurd (miss hit)), (λ _. refl)),
       ))
 

@@ -148,4 +148,8 @@ opening_view = record {
   noticed = false;
   marked = false;
   known = 0;
+  loads = 0;
+  looks = 0;
+  pens = 0;
+  misses = 0;
 }

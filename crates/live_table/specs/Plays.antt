@@ -1,4 +1,4 @@
-use Rattle.std.specs.Prelude.{◌≡◌, ℕ, ◌+◌, ◌-◌, ◌/◌, ◌<◌, ◌≤◌, ◌⊎◌, ◌&&◌, not, max, nat_lt, List, [], ◌∷◌, ◌++◌, length, true, false, if◌then◌else◌, Option, Some, None, slice_index}
+use Rattle.std.specs.Prelude.{◌≡◌, ℕ, ◌+◌, ◌-◌, ◌/◌, ◌%◌, ◌<◌, ◌≤◌, ◌⊎◌, ◌&&◌, not, max, nat_lt, List, [], ◌∷◌, ◌++◌, length, true, false, if◌then◌else◌, Option, Some, None, slice_index}
 use Rattle.atomic_table.specs.Table.{Me, Step}
 use Rattle.rules_spec.specs.declared.Batch.{Batch}
 use Rattle.live_table.specs.declared.view.View.{View}
@@ -13,10 +13,10 @@ abbrev pub Telling : (S E : Type 0) → Type 1
 Telling S E = Step (Option S) → Me (Option S) (View E) → ℕ → Me (Option S) (View E) → Type 0
 
 module _ {E : Type 0} where
-  -- The seat has seen the journal that the found word tells: it begins with what the seat had seen, and its numbers have
-  -- no more batches in it.
+  -- The seat looked, and has seen the journal that the found word tells: it begins with what the seat had seen, and its
+  -- numbers have no more batches in it.
   pub record Saw (v : View E) (found : ℕ) (w : View E) : Type 0 where
-    pub same : w ≡ record v { journal = w.journal }
+    pub same : w ≡ record v { journal = w.journal; looks = v.looks + 1; misses = v.misses + found % 2 }
     pub more : Begins w.journal v.journal
     pub rows : found / 2 ≡ rows_of w.journal
     pub own : (k : ℕ) → Has k v.numbers → batches_by k w.journal ≡ batches_by k v.journal
@@ -25,7 +25,7 @@ module _ {E : Type 0} where
 
   -- the view with the pen, before anything is filled
   abbrev pub with_pen : View E → View E
-  with_pen v = record v { pen = true; filled = [] }
+  with_pen v = record v { pen = true; filled = []; pens = v.pens + 1 }
 
   -- the seat knows that so many numbers are drawn
   abbrev pub knowing : ℕ → View E → View E
@@ -35,7 +35,8 @@ module _ {E : Type 0} where
   abbrev pub notified : View E → View E
   notified v = record v { noticed = v.turn }
 
-  -- a notice has seen what its maker has, and is marked where it is the first of a turn
+  -- A notice has seen what its maker has, and is marked where it is the first of a turn. What it does itself is counted
+  -- from 0, so that a task's counts are those of its own life.
   abbrev pub notice_of : View E → View E
   notice_of v = record {
     numbers = [];
@@ -50,6 +51,10 @@ module _ {E : Type 0} where
     noticed = false;
     marked = v.turn && not v.noticed;
     known = v.known;
+    loads = 0;
+    looks = 0;
+    pens = 0;
+    misses = 0;
   }
 
   -- a view that was joined into another
@@ -67,9 +72,13 @@ module _ {E : Type 0} where
     noticed = false;
     marked = false;
     known = 0;
+    loads = 0;
+    looks = 0;
+    pens = 0;
+    misses = 0;
   }
 
-  -- what the other view has is kept as told, until the next look at the rows
+  -- what the other view has is kept as told, until the next look at the rows; what it counted ends with it
   abbrev pub joined : View E → View E → View E
   joined v w = record v {
     told_numbers = w.numbers;
@@ -97,13 +106,13 @@ module _ {S E : Type 0} where
   abbrev pub saw : Telling S E
   saw st m r m' = Saw m.0 r m'.0 × (m'.1 ≡ m.1)
 
-  -- the row is that of the seen journal
+  -- the row is that of the seen journal, and it is one more that was loaded
   abbrev pub read : Telling S E
-  read st m r m' = (m' ≡ m) × (r ≡ slice_index (words_of m.0.journal) (st.word - 3))
+  read st m r m' = (m'.1 ≡ m.1) × (m'.0 ≡ record m.0 { loads = m.0.loads + 1 }) × (r ≡ slice_index (words_of m.0.journal) (st.word - 3))
 
-  -- the pen was free, and is the seat's
+  -- the pen was free, and is the seat's; or the word had changed
   abbrev pub penned : Telling S E
-  penned st m r m' = (m'.1 ≡ m.1) × (r ≡ st.first → Saw (with_pen m.0) r m'.0) × (¬ (r ≡ st.first) → m'.0 ≡ m.0)
+  penned st m r m' = (m'.1 ≡ m.1) × (r ≡ st.first → Saw (with_pen m.0) r m'.0) × (¬ (r ≡ st.first) → m'.0 ≡ record m.0 { misses = m.0.misses + 1 })
 
   abbrev pub filled : Telling S E
   filled st m r m' = (m'.1 ≡ m.1) × (m'.0 ≡ record m.0 { filled = m.0.filled ++ r ∷ [] })

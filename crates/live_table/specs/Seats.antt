@@ -54,6 +54,10 @@ pub record IsOpening (words : List ℕ) : Type 0 where
   pub is : words ≡ 1 ∷ 0 ∷ 0 ∷ rows
   pub long : length rows ≡ row_count
 
+-- the seat, with so many rows loaded
+abbrev pub with_loads : {E : Type 0} → ℕ → SeatValue E → SeatValue E
+with_loads n s = record s { view = record s.view { loads = n } }
+
 -- it holds neither pen nor turn
 abbrev pub Rests : {E : Type 0} → View E → Type 0
 Rests v = (v.pen ≡ false) × (v.turn ≡ false)
@@ -65,10 +69,10 @@ pub record AreWhole (filled : List ℕ) (number : ℕ) : Type 0 where
   pub own : (b : Batch) → Has b batches → b.task ≡ number
   pub packed : ArePacked batches
 
--- The view v after a look at the rows: the seen journal is longer or the same, and the seat's numbers have no more
--- batches in it.
+-- The view v after looks at the rows, and loads of rows: the seen journal is longer or the same, and the seat's numbers
+-- have no more batches in it. The pen, how often it was taken, and the turn are as before.
 pub record Sees {E : Type 0} (v w : View E) : Type 0 where
-  pub view : w ≡ record v { journal = w.journal }
+  pub view : w ≡ record v { journal = w.journal; loads = w.loads; looks = w.looks; misses = w.misses }
   pub journal : Begins w.journal v.journal
   pub batches : (k : ℕ) → Has k v.numbers → batches_by k w.journal ≡ batches_by k v.journal
 
@@ -82,6 +86,9 @@ module _ {S E : Type 0} (m : Means S E) where
     pub turn : x.turn ≡ v.turn
     pub noticed : x.noticed ≡ v.noticed
     pub known : x.known ≡ max v.known w.known
+    pub loads : x.loads ≡ v.loads
+    pub looks : x.looks ≡ v.looks
+    pub pens : x.pens ≡ v.pens
     pub journal : Begins x.journal v.journal
     pub history : Begins x.history v.history
     pub told_journal : Begins x.journal w.journal
@@ -93,9 +100,9 @@ module _ {S E : Type 0} (m : Means S E) where
     pub told_batches : (k : ℕ) → Has k w.numbers → batches_by k x.journal ≡ batches_by k w.journal
     pub told_entries : (k : ℕ) → Has k w.numbers → entries_by m k x.history ≡ entries_by m k w.history
 
-  -- the view v after the turn was taken, and the value that was in the slot
+  -- the view v after the turn was taken, with looks at the rows and loads of rows, and the value that was in the slot
   pub record Turns (v w : View E) (x : S) : Type 0 where
-    pub view : w ≡ at_turn v w.journal w.history
+    pub view : w ≡ record (at_turn v w.journal w.history) { loads = w.loads; looks = w.looks; misses = w.misses }
     pub journal : Begins w.journal v.journal
     pub history : Begins w.history v.history
     pub is : m.history x ≡ w.history

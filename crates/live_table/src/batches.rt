@@ -1,8 +1,9 @@
-ghost use Rattle.std.specs.Prelude.{◌≡◌, ◌≤◌, ◌<◌, ◌+◌, List, length, IfOk, IfSome, OnErr};
+ghost use Rattle.std.specs.Prelude.{◌≡◌, ◌≤◌, ◌<◌, ◌+◌, List, length, IfOk, IfSome, OnOk, OnErr};
 ghost use Rattle.smack_base.specs.declared.rule_op.RuleOp.{RuleOp};
 ghost use Rattle.rules_spec.specs.declared.Batch.{Batch};
 ghost use Rattle.live_table.specs.Batches.{words_of, rows_of, Cut, OpsAt, first_of, first_rows};
 ghost use Rattle.live_table.specs.Core.{row_count};
+ghost use Rattle.live_table.specs.Seats.{with_loads};
 
 use crate::machine::Machine;
 use crate::seat::TaskSeat;
@@ -27,9 +28,11 @@ impl<M: Machine> LiveTable<M> {
         requires table { seat.old.table ≡ self.now }
         requires room { at + len ≤ row_count }
         requires ops { (ops : List RuleOp) × OpsAt (words_of seat.old.view.journal) at ops × (len ≡ length ops) }
-        ensures same { seat.new ≡ seat.old }
+        ensures same { seat.new ≡ with_loads seat.new.view.loads seat.old }
         ensures ops { (ops : List RuleOp) → OpsAt (words_of seat.old.view.journal) at ops → len ≡ length ops → IfOk result (λ r. r ≡ ops) }
         ensures cost { steps.new ≤ steps.old + len }
+        ensures few { (seat.old.view.loads ≤ seat.new.view.loads) × (seat.new.view.loads ≤ seat.old.view.loads + len) }
+        ensures loaded { OnOk result (seat.new.view.loads ≡ seat.old.view.loads + len) }
     {
         let mut ops = RuleOps::new(alloc);
         for i in 0..u32::from(len) {
@@ -42,9 +45,9 @@ impl<M: Machine> LiveTable<M> {
         Ok(ops)
     }
 
-    /// The batch whose head stands in this row, with one step for each of its rows; `None` where the
-    /// row is the end of those that the seat has seen. Want of memory comes only where there is a
-    /// batch.
+    /// The batch whose head stands in this row, with one load and one step for each of its rows; `None`
+    /// where the row is the end of those that the seat has seen. Want of memory comes only where there
+    /// is a batch, and then not all of its rows may have been loaded.
     pub fn batch<L: Ledger>(
         &self,
         alloc: Global,
@@ -54,11 +57,15 @@ impl<M: Machine> LiveTable<M> {
     ) -> Result<Option<Batch>, AllocError>
         requires table { seat.old.table ≡ self.now }
         requires cut { (front : List Batch) × (rest : List Batch) × Cut seat.old.view.journal front rest at }
-        ensures same { seat.new ≡ seat.old }
+        ensures same { seat.new ≡ with_loads seat.new.view.loads seat.old }
         ensures batch { (front rest : List Batch) → Cut seat.old.view.journal front rest at → IfOk result (λ b. b ≡ first_of rest) }
         ensures some { OnErr result (at < rows_of seat.old.view.journal) }
         ensures room { IfOk result (λ b. IfSome b (λ batch. at + 1 + length batch.ops ≤ row_count)) }
         ensures cost { (front rest : List Batch) → Cut seat.old.view.journal front rest at → steps.new ≤ steps.old + first_rows rest }
+        ensures few { (front rest : List Batch) → Cut seat.old.view.journal front rest at
+            → (seat.old.view.loads ≤ seat.new.view.loads) × (seat.new.view.loads ≤ seat.old.view.loads + first_rows rest) }
+        ensures loaded { (front rest : List Batch) → Cut seat.old.view.journal front rest at
+            → OnOk result (seat.new.view.loads ≡ seat.old.view.loads + first_rows rest) }
     {
         if at >= seat.rows_seen() {
             return Ok(None);

@@ -1,5 +1,5 @@
 ghost use Rattle.std.specs.Prelude.{◌≡◌, ◌<◌, IfOk, IfErr};
-ghost use Rattle.live_table.specs.Seats.{IsWhole, Closes};
+ghost use Rattle.live_table.specs.Seats.{IsWhole, Closes, with_loads};
 
 use crate::machine::Machine;
 use crate::seat::TaskSeat;
@@ -19,7 +19,7 @@ impl<M: Machine> LiveTable<M> {
         steps: &mut Steps<L>,
     ) -> Result<Journal, AllocError>
         requires { seat.old.table ≡ self.now }
-        ensures same { seat.new ≡ seat.old }
+        ensures same { seat.new ≡ with_loads seat.new.view.loads seat.old }
         ensures journal { IfOk result (λ journal. journal ≡ seat.old.view.journal) }
     {
         let mut journal = Journal::new(alloc);
@@ -39,7 +39,7 @@ impl<M: Machine> LiveTable<M> {
     ) -> Result<Journal, AllocError>
         requires blank { (blank.name ≡ L.name) × (blank.parts ≡ L.parts) × (0 < L.parts) }
         requires table { seat.old.table ≡ self.now }
-        ensures same { seat.new ≡ seat.old }
+        ensures same { seat.new ≡ with_loads seat.new.view.loads seat.old }
         ensures journal { IfOk result (λ journal. journal ≡ seat.old.view.journal) }
     {
         let mut steps = Steps::<L>::new(blank);
@@ -49,15 +49,15 @@ impl<M: Machine> LiveTable<M> {
     /// The same, where nobody counts the steps.
     fn seen_journal(&self, alloc: Global, seat: &mut TaskSeat<M>) -> Result<Journal, AllocError>
         requires { seat.old.table ≡ self.now }
-        ensures same { seat.new ≡ seat.old }
+        ensures same { seat.new ≡ with_loads seat.new.view.loads seat.old }
         ensures journal { IfOk result (λ journal. journal ≡ seat.old.view.journal) }
     {
         self.read_journal_by::<Brand>(alloc, seat, Blank::new(1))
     }
 
     /// Ends the table: the journal that the seat has seen, and the value of the machine. The seat is
-    /// whole, so these are all that was published and entered. On want of memory the table and the
-    /// seat come back as they were.
+    /// whole, so these are all that was published and entered. Each row is loaded once more. On want of
+    /// memory the table and the seat come back as they were, but for the rows that were loaded.
     pub fn close(
         self,
         alloc: Global,
@@ -67,7 +67,7 @@ impl<M: Machine> LiveTable<M> {
         requires whole { IsWhole M.means seat.view }
         ensures journal { IfOk result (λ r. r.0 ≡ seat.view.journal) }
         ensures value { IfOk result (λ r. Closes M.means seat.view r.1) }
-        ensures back { IfErr result (λ e. (e.1 ≡ self) × (e.2 ≡ seat)) }
+        ensures back { IfErr result (λ e. (e.1 ≡ self) × (e.2 ≡ with_loads e.2.view.loads seat)) }
     {
         let mut seat = seat;
         let journal = match self.seen_journal(alloc, &mut seat) {

@@ -13,12 +13,14 @@ use crate::table::{FIRST_ROW, LiveTable, PUBLISHED};
 use std::sync::Wait;
 
 impl<M: Machine> LiveTable<M> {
-    /// Takes the pen where it is free. The seat has seen all published rows either way.
+    /// Takes the pen where it is free. The seat has seen all published rows either way; where it did
+    /// not take the pen it met another seat with it, or a word that had changed.
     fn try_pen(&self, seat: &mut TaskSeat<M>) -> bool
         requires { seat.old.table ≡ self.now }
         ensures same { (seat.new.table ≡ seat.old.table) × (seat.new.number ≡ seat.old.number) }
         ensures pen { OnTrue result (Sees (with_pen seat.old.view) seat.new.view) }
-        ensures none { OnFalse result (Sees seat.old.view seat.new.view) }
+        ensures none { OnFalse result (Sees seat.old.view seat.new.view × (seat.old.view.misses < seat.new.view.misses)) }
+        ensures counted { (seat.new.view.loads ≡ seat.old.view.loads) × (seat.old.view.looks < seat.new.view.looks) }
     {
         let word = self.table.shared.load::<See>(&mut seat.seat, PUBLISHED);
         seat.rows = (word / 2) as u32;
@@ -43,6 +45,7 @@ impl<M: Machine> LiveTable<M> {
         requires { seat.old.table ≡ self.now }
         ensures same { (seat.new.table ≡ seat.old.table) × (seat.new.number ≡ seat.old.number) }
         ensures seen { Sees (with_pen seat.old.view) seat.new.view × (result ≡ rows_of seat.new.view.journal) }
+        ensures counted { (seat.new.view.loads ≡ seat.old.view.loads) × (seat.old.view.looks < seat.new.view.looks) }
     {
         for _ in rt.forever() {
             if self.try_pen(seat) {

@@ -1,7 +1,7 @@
 ghost use Rattle.std.specs.Prelude.{◌≡◌, ◌<◌, length, [], IfOk, slice_index, ◌+◌};
 ghost use Rattle.live_table.specs.Batches.{words_of, rows_of};
 ghost use Rattle.live_table.specs.Core.{opening_view};
-ghost use Rattle.live_table.specs.Seats.{IsOpening, Sees};
+ghost use Rattle.live_table.specs.Seats.{IsOpening, Sees, with_loads};
 
 use crate::law::Law;
 use crate::machine::Machine;
@@ -92,17 +92,18 @@ impl<M: Machine> LiveTable<M> {
         requires { seat.old.table ≡ self.now }
         ensures same { (seat.new.table ≡ seat.old.table) × (seat.new.number ≡ seat.old.number) }
         ensures seen { Sees seat.old.view seat.new.view × (result ≡ rows_of seat.new.view.journal) }
+        ensures counted { (seat.new.view.loads ≡ seat.old.view.loads) × (seat.new.view.looks ≡ seat.old.view.looks + 1) }
     {
         let word = self.table.shared.load::<See>(&mut seat.seat, PUBLISHED);
         seat.rows = (word / 2) as u32;
         seat.rows
     }
 
-    /// The word of a row that the seat has seen; one step.
+    /// The word of a row that the seat has seen: one row more that it has loaded, and one step.
     pub fn row<L: Ledger>(&self, seat: &mut TaskSeat<M>, at: u32, steps: &mut Steps<L>) -> u64
         requires table { seat.old.table ≡ self.now }
         requires seen { at < rows_of seat.old.view.journal }
-        ensures same { seat.new ≡ seat.old }
+        ensures loaded { seat.new ≡ with_loads (seat.old.view.loads + 1) seat.old }
         ensures word { result ≡ slice_index (words_of seat.old.view.journal) at }
         ensures cost { steps.new ≡ steps.old + 1 }
     {

@@ -1,4 +1,4 @@
-ghost use Rattle.std.specs.Prelude.{◌≡◌, ◌++◌, List, true, false, IfSome, IfNone};
+ghost use Rattle.std.specs.Prelude.{◌≡◌, ◌+◌, ◌++◌, List, true, false, IfSome, IfNone};
 ghost use Rattle.live_table.specs.Plays.{given as given_with, MayGive};
 ghost use Rattle.live_table.specs.Seats.{Rests, Turns};
 
@@ -14,7 +14,8 @@ impl<M: Machine> LiveTable<M> {
         requires table { seat.old.table ≡ self.now }
         requires rests { Rests seat.old.view }
         ensures turn { IfSome result (λ value. (seat.new.table ≡ seat.old.table) × (seat.new.number ≡ seat.old.number)
-            × Turns M.means seat.old.view seat.new.view value) }
+            × Turns M.means seat.old.view seat.new.view value
+            × (seat.new.view.loads ≡ seat.old.view.loads) × (seat.new.view.looks ≡ seat.old.view.looks + 1)) }
         ensures none { IfNone result (seat.new ≡ seat.old) }
     {
         let found = self
@@ -37,6 +38,7 @@ impl<M: Machine> LiveTable<M> {
         requires rests { Rests seat.old.view }
         ensures same { (seat.new.table ≡ seat.old.table) × (seat.new.number ≡ seat.old.number) }
         ensures turn { Turns M.means seat.old.view seat.new.view result }
+        ensures counted { (seat.new.view.loads ≡ seat.old.view.loads) × (seat.new.view.looks ≡ seat.old.view.looks + 1) }
     {
         for _ in rt.forever() {
             if let Some(value) = self.try_turn(seat) {

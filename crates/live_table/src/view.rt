@@ -27,4 +27,13 @@ pub struct View<E> {
     pub marked: bool,
     /// So many numbers are drawn, or more.
     pub known: u64,
+    /// So many rows it has loaded, each time that it loaded one.
+    pub loads: u64,
+    /// So often it looked at what is published, other than where it heard another seat.
+    pub looks: u64,
+    /// So often it took the pen.
+    pub pens: u64,
+    /// So often it met the pen in another's hand, or a word that had changed where it reached for the
+    /// pen.
+    pub misses: u64,
 }

@@ -6,6 +6,7 @@ ghost use Rattle.world_spec.specs.Worlds.{creds_of};
 ghost use Rattle.world_spec.specs.Replays.{StandsOver};
 ghost use Rattle.live_table.specs.Batches.{rows_of};
 ghost use Rattle.live_table.specs.Machines.{made as tasks_made};
+ghost use Rattle.live_table.specs.Seats.{with_loads};
 ghost use Rattle.smack_kernel.specs.Histories.{world_means, child_of};
 ghost use Rattle.smack_kernel.specs.Indexes.{StandsAt};
 ghost use Rattle.smack_kernel.specs.Tasks.{IsTask, Stays, task_of};
@@ -88,7 +89,7 @@ fn fork_in_turn<L: Ledger>(
     requires world { StandsOver seat.old.view.journal machine.old.trail machine.old.world }
     requires alive { seat.old.number < length machine.old.world.tasks }
     requires creds { creds.old ≡ creds_of machine.old.world seat.old.number }
-    ensures same { seat.new ≡ seat.old }
+    ensures same { seat.new ≡ with_loads seat.new.view.loads seat.old }
     ensures stands { StandsAt index.new.rules index.new.rows seat.old.view.journal }
     ensures later { index.old.rules.version ≤ index.new.rules.version }
     ensures whole { OnOk result (index.new.rules.version ≡ length seat.old.view.journal) }

@@ -3,7 +3,7 @@ ghost use Rattle.rules_spec.specs.declared.Batch.{Batch};
 ghost use Rattle.rule_fold.specs.Index.{StandsFor};
 ghost use Rattle.live_table.specs.Batches.{rows_of};
 ghost use Rattle.live_table.specs.Core.{row_count};
-ghost use Rattle.live_table.specs.Seats.{Sees};
+ghost use Rattle.live_table.specs.Seats.{Sees, with_loads};
 ghost use Rattle.smack_kernel.specs.Indexes.{StandsAt};
 
 use live_table::{LiveTable, Machine, TaskSeat};
@@ -66,7 +66,7 @@ pub(crate) fn read_up<M: Machine, L: Ledger>(
 ) -> Result<(), AllocError>
     requires table { seat.old.table ≡ table.now }
     requires stands { StandsAt index.old.rules index.old.rows seat.old.view.journal }
-    ensures same { seat.new ≡ seat.old }
+    ensures same { seat.new ≡ with_loads seat.new.view.loads seat.old }
     ensures stands { StandsAt index.new.rules index.new.rows seat.old.view.journal }
     ensures later { index.old.rules.version ≤ index.new.rules.version }
     ensures whole { OnOk result (index.new.rules.version ≡ length seat.old.view.journal) }

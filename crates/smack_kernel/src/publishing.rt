@@ -4,7 +4,7 @@ ghost use Rattle.rule_word.specs.Layout.{op_word, IsPackable};
 ghost use Rattle.live_table.specs.Lists.{Has, rest_of};
 ghost use Rattle.live_table.specs.Batches.{IsPacked, rows_of};
 ghost use Rattle.live_table.specs.Core.{row_count};
-ghost use Rattle.live_table.specs.Seats.{Rests};
+ghost use Rattle.live_table.specs.Seats.{Rests, with_loads};
 ghost use Rattle.smack_kernel.specs.Indexes.{StandsAt};
 ghost use Rattle.smack_kernel.specs.Growth.{Grows, IsJudged, IsPublished, journal_after};
 
@@ -90,7 +90,7 @@ fn judge<L: Ledger>(
     requires table { seat.old.table ≡ table.now }
     requires stands { StandsAt index.old.rules index.old.rows seat.old.view.journal }
     requires short { length batch.now.ops < 65536 }
-    ensures same { seat.new ≡ seat.old }
+    ensures same { seat.new ≡ with_loads seat.new.view.loads seat.old }
     ensures judged { IfOk result (IsJudged seat.old.view.journal creds.now batch.now.ops) }
     ensures stands { IfOk result (λ p. StandsAt index.new.rules index.new.rows (journal_after seat.old.view.journal batch.now p)) }
     ensures whole { IfOk result (λ p. index.new.rules.version ≡ length (journal_after seat.old.view.journal batch.now p)) }

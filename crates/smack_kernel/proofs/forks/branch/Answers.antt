@@ -9,7 +9,8 @@ use Rattle.world_spec.specs.Worlds.{creds_of}
 use Rattle.live_table.specs.declared.view.View.{View}
 use Rattle.live_table.specs.Batches.{rows_of}
 use Rattle.live_table.specs.Plays.{MayGive, given}
-use Rattle.live_table.specs.Seats.{SeatValue}
+use Rattle.live_table.specs.Seats.{SeatValue, with_loads}
+use Rattle.live_table.proofs.AfterSteps.{turns_loaded}
 use Rattle.live_table.proofs.Lists.{rows_begin}
 use Rattle.smack_kernel.specs.Histories.{world_means}
 use Rattle.smack_kernel.specs.Growth.{entry_of}
@@ -45,9 +46,10 @@ fork_in_turn-forked-requires-clause-creds g c =
 pub give_turn-requires-then-not-makes_task-clause-may : goal.give_turn-requires-then-not-makes_task-clause-may
 give_turn-requires-then-not-makes_task-clause-may g c =
     let s = c.args.seat.now in
-    let s1 = c.take_turn-machine.new.seat in
+    let loads = c.fork_in_turn-forked.new.seat.view.loads in
+    let s1 = with_loads loads c.take_turn-machine.new.seat in
     let same1 = c.take_turn-machine.ensures.same in
-    let t = c.take_turn-machine.ensures.turn in
+    let t = turns_loaded world_means loads c.take_turn-machine.ensures.turn in
     let x = c.take_turn-machine.result in
     let m' = c.fork_in_turn-forked.new.machine in
     let seq = c.args.made + 1 in
@@ -70,9 +72,10 @@ give_turn-requires-then-not-makes_task-clause-may g c =
 pub returns-then-not-makes_task-clause-task : goal.returns-then-not-makes_task-clause-task
 returns-then-not-makes_task-clause-task g c =
     let s = c.args.seat.now in
-    let s1 = c.take_turn-machine.new.seat in
+    let loads = c.fork_in_turn-forked.new.seat.view.loads in
+    let s1 = with_loads loads c.take_turn-machine.new.seat in
     let same1 = c.take_turn-machine.ensures.same in
-    let t = c.take_turn-machine.ensures.turn in
+    let t = turns_loaded world_means loads c.take_turn-machine.ensures.turn in
     let x = c.take_turn-machine.result in
     let m' = c.fork_in_turn-forked.new.machine in
     let seq = c.args.made + 1 in
@@ -102,9 +105,10 @@ returns-then-not-makes_task-clause-task g c =
 pub returns-then-not-makes_task-clause-branched : goal.returns-then-not-makes_task-clause-branched
 returns-then-not-makes_task-clause-branched g c =
     let s = c.args.seat.now in
-    let s1 = c.take_turn-machine.new.seat in
+    let loads = c.fork_in_turn-forked.new.seat.view.loads in
+    let s1 = with_loads loads c.take_turn-machine.new.seat in
     let same1 = c.take_turn-machine.ensures.same in
-    let t = c.take_turn-machine.ensures.turn in
+    let t = turns_loaded world_means loads c.take_turn-machine.ensures.turn in
     let x = c.take_turn-machine.result in
     let m' = c.fork_in_turn-forked.new.machine in
     let seq = c.args.made + 1 in
@@ -134,9 +138,10 @@ returns-then-not-makes_task-clause-branched g c =
 pub returns-then-not-makes_task-clause-cost : goal.returns-then-not-makes_task-clause-cost
 returns-then-not-makes_task-clause-cost g c =
     let s = c.args.seat.now in
-    let s1 = c.take_turn-machine.new.seat in
+    let loads = c.fork_in_turn-forked.new.seat.view.loads in
+    let s1 = with_loads loads c.take_turn-machine.new.seat in
     let same1 = c.take_turn-machine.ensures.same in
-    let t = c.take_turn-machine.ensures.turn in
+    let t = turns_loaded world_means loads c.take_turn-machine.ensures.turn in
     let x = c.take_turn-machine.result in
     let m' = c.fork_in_turn-forked.new.machine in
     let seq = c.args.made + 1 in
@@ -167,9 +172,10 @@ returns-then-not-makes_task-clause-cost g c =
 pub give_with_child-child-requires-clause-may : goal.give_with_child-child-requires-clause-may
 give_with_child-child-requires-clause-may g c =
     let s = c.args.seat.now in
-    let s1 = c.take_turn-machine.new.seat in
+    let loads = c.fork_in_turn-forked.new.seat.view.loads in
+    let s1 = with_loads loads c.take_turn-machine.new.seat in
     let same1 = c.take_turn-machine.ensures.same in
-    let t = c.take_turn-machine.ensures.turn in
+    let t = turns_loaded world_means loads c.take_turn-machine.ensures.turn in
     let x = c.take_turn-machine.result in
     let m' = c.fork_in_turn-forked.new.machine in
     let seq = c.args.made + 1 in
@@ -192,9 +198,10 @@ give_with_child-child-requires-clause-may g c =
 pub invariant_of-result : goal.invariant_of-result
 invariant_of-result g c =
     let s = c.args.seat.now in
-    let s1 = c.take_turn-machine.new.seat in
+    let loads = c.fork_in_turn-forked.new.seat.view.loads in
+    let s1 = with_loads loads c.take_turn-machine.new.seat in
     let same1 = c.take_turn-machine.ensures.same in
-    let t = c.take_turn-machine.ensures.turn in
+    let t = turns_loaded world_means loads c.take_turn-machine.ensures.turn in
     let x = c.take_turn-machine.result in
     let m' = c.fork_in_turn-forked.new.machine in
     let seq = c.args.made + 1 in
@@ -232,9 +239,10 @@ invariant_of-result g c =
 pub returns-in-Err-clause-task : goal.returns-in-Err-clause-task
 returns-in-Err-clause-task g c =
     let s = c.args.seat.now in
-    let s1 = c.take_turn-machine.new.seat in
+    let loads = c.fork_in_turn-forked.new.seat.view.loads in
+    let s1 = with_loads loads c.take_turn-machine.new.seat in
     let same1 = c.take_turn-machine.ensures.same in
-    let t = c.take_turn-machine.ensures.turn in
+    let t = turns_loaded world_means loads c.take_turn-machine.ensures.turn in
     let x = c.take_turn-machine.result in
     let m' = c.fork_in_turn-forked.new.machine in
     let seq = c.args.made + 1 in
@@ -261,9 +269,10 @@ returns-in-Err-clause-task g c =
 pub returns-in-Err-clause-stays : goal.returns-in-Err-clause-stays
 returns-in-Err-clause-stays g c =
     let s = c.args.seat.now in
-    let s1 = c.take_turn-machine.new.seat in
+    let loads = c.fork_in_turn-forked.new.seat.view.loads in
+    let s1 = with_loads loads c.take_turn-machine.new.seat in
     let same1 = c.take_turn-machine.ensures.same in
-    let t = c.take_turn-machine.ensures.turn in
+    let t = turns_loaded world_means loads c.take_turn-machine.ensures.turn in
     let x = c.take_turn-machine.result in
     let m' = c.fork_in_turn-forked.new.machine in
     let seq = c.args.made + 1 in
@@ -290,9 +299,10 @@ returns-in-Err-clause-stays g c =
 pub returns-in-Err-clause-cost : goal.returns-in-Err-clause-cost
 returns-in-Err-clause-cost g c =
     let s = c.args.seat.now in
-    let s1 = c.take_turn-machine.new.seat in
+    let loads = c.fork_in_turn-forked.new.seat.view.loads in
+    let s1 = with_loads loads c.take_turn-machine.new.seat in
     let same1 = c.take_turn-machine.ensures.same in
-    let t = c.take_turn-machine.ensures.turn in
+    let t = turns_loaded world_means loads c.take_turn-machine.ensures.turn in
     let x = c.take_turn-machine.result in
     let m' = c.fork_in_turn-forked.new.machine in
     let seq = c.args.made + 1 in
@@ -320,9 +330,10 @@ returns-in-Err-clause-cost g c =
 pub returns-else-not-makes_task-clause-task : goal.returns-else-not-makes_task-clause-task
 returns-else-not-makes_task-clause-task g c =
     let s = c.args.seat.now in
-    let s1 = c.take_turn-machine.new.seat in
+    let loads = c.fork_in_turn-forked.new.seat.view.loads in
+    let s1 = with_loads loads c.take_turn-machine.new.seat in
     let same1 = c.take_turn-machine.ensures.same in
-    let t = c.take_turn-machine.ensures.turn in
+    let t = turns_loaded world_means loads c.take_turn-machine.ensures.turn in
     let x = c.take_turn-machine.result in
     let m' = c.fork_in_turn-forked.new.machine in
     let seq = c.args.made + 1 in
@@ -357,9 +368,10 @@ returns-else-not-makes_task-clause-task g c =
 pub returns-else-not-makes_task-clause-branched : goal.returns-else-not-makes_task-clause-branched
 returns-else-not-makes_task-clause-branched g c =
     let s = c.args.seat.now in
-    let s1 = c.take_turn-machine.new.seat in
+    let loads = c.fork_in_turn-forked.new.seat.view.loads in
+    let s1 = with_loads loads c.take_turn-machine.new.seat in
     let same1 = c.take_turn-machine.ensures.same in
-    let t = c.take_turn-machine.ensures.turn in
+    let t = turns_loaded world_means loads c.take_turn-machine.ensures.turn in
     let x = c.take_turn-machine.result in
     let m' = c.fork_in_turn-forked.new.machine in
     let seq = c.args.made + 1 in
@@ -400,9 +412,10 @@ returns-else-not-makes_task-clause-branched g c =
 pub returns-else-not-makes_task-clause-cost : goal.returns-else-not-makes_task-clause-cost
 returns-else-not-makes_task-clause-cost g c =
     let s = c.args.seat.now in
-    let s1 = c.take_turn-machine.new.seat in
+    let loads = c.fork_in_turn-forked.new.seat.view.loads in
+    let s1 = with_loads loads c.take_turn-machine.new.seat in
     let same1 = c.take_turn-machine.ensures.same in
-    let t = c.take_turn-machine.ensures.turn in
+    let t = turns_loaded world_means loads c.take_turn-machine.ensures.turn in
     let x = c.take_turn-machine.result in
     let m' = c.fork_in_turn-forked.new.machine in
     let seq = c.args.made + 1 in

@@ -2,6 +2,7 @@ use Rattle.std.proofs.Common.{arith, refl, ap, sym, subst, ◌∙◌, ◌+◌, �
 use Rattle.live_table.specs.Batches.{Cut}
 use Rattle.live_table.specs.Core.{row_count}
 use Rattle.live_table.specs.Seats.{SeatValue}
+use Rattle.live_table.proofs.AfterSteps.{loaded_more}
 use Rattle.smack_kernel.proofs.Indexes.{stands_low, stands_end, absorbs, first_rows_left, first_rows_of}
 use Rattle.smack_kernel.proofs.index.read_up.Goals as goal
 
@@ -40,7 +41,7 @@ loop-batch-preserved g c =
     (c.in_ok-batch.ensures.batch _ _ cut) c.in-Some.is in
     let later = v.2 in
     let so_far = v.3 in
-    (c.batch.ensures.same ∙ v.0, r.stands, omega arith, omega arith)
+    (loaded_more c.args.seat.now v.0 c.batch.ensures.same, r.stands, omega arith, omega arith)
 
 pub loop-batch-smaller : goal.loop-batch-smaller
 loop-batch-smaller g c =
@@ -79,3 +80,9 @@ returns-in_err-absorb-clause-cost g c =
     let left = first_rows_left v.1 in
     let so_far = v.3 in
     omega arith
+
+pub returns-in_err-batch-clause-same : goal.returns-in_err-batch-clause-same
+returns-in_err-batch-clause-same g c = loaded_more c.args.seat.now c.loop-batch.invariant.0 c.batch.ensures.same
+
+pub returns-in_err-absorb-clause-same : goal.returns-in_err-absorb-clause-same
+returns-in_err-absorb-clause-same g c = loaded_more c.args.seat.now c.loop-batch.invariant.0 c.batch.ensures.same

@@ -5,7 +5,8 @@ use Rattle.world_spec.specs.declared.Entry.{Entry}
 use Rattle.world_spec.specs.Worlds.{creds_of}
 use Rattle.live_table.specs.Batches.{rows_of}
 use Rattle.live_table.specs.Plays.{MayGive, given}
-use Rattle.live_table.specs.Seats.{SeatValue}
+use Rattle.live_table.specs.Seats.{SeatValue, with_loads}
+use Rattle.live_table.proofs.AfterSteps.{turns_loaded}
 use Rattle.smack_kernel.specs.Histories.{world_means}
 use Rattle.smack_kernel.specs.Turns.{IsMade}
 use Rattle.smack_kernel.proofs.Worlds.{IsLive}
@@ -33,9 +34,10 @@ call_in_turn-turned-requires-clause-creds g c =
 pub give_turn-requires-clause-may : goal.give_turn-requires-clause-may
 give_turn-requires-clause-may g c =
     let s = c.args.seat.now in
-    let s1 = c.take_turn-machine.new.seat in
+    let loads = c.call_in_turn-turned.new.seat.view.loads in
+    let s1 = with_loads loads c.take_turn-machine.new.seat in
     let same1 = c.take_turn-machine.ensures.same in
-    let t = c.take_turn-machine.ensures.turn in
+    let t = turns_loaded world_means loads c.take_turn-machine.ensures.turn in
     let x = c.take_turn-machine.result in
     let m' = c.call_in_turn-turned.new.machine in
     let seq = c.args.made + 1 in
@@ -53,9 +55,10 @@ give_turn-requires-clause-may g c =
 pub returns-clause-task : goal.returns-clause-task
 returns-clause-task g c =
     let s = c.args.seat.now in
-    let s1 = c.take_turn-machine.new.seat in
+    let loads = c.call_in_turn-turned.new.seat.view.loads in
+    let s1 = with_loads loads c.take_turn-machine.new.seat in
     let same1 = c.take_turn-machine.ensures.same in
-    let t = c.take_turn-machine.ensures.turn in
+    let t = turns_loaded world_means loads c.take_turn-machine.ensures.turn in
     let x = c.take_turn-machine.result in
     let m' = c.call_in_turn-turned.new.machine in
     let seq = c.args.made + 1 in
@@ -79,9 +82,10 @@ returns-clause-task g c =
 pub returns-clause-turned : goal.returns-clause-turned
 returns-clause-turned g c =
     let s = c.args.seat.now in
-    let s1 = c.take_turn-machine.new.seat in
+    let loads = c.call_in_turn-turned.new.seat.view.loads in
+    let s1 = with_loads loads c.take_turn-machine.new.seat in
     let same1 = c.take_turn-machine.ensures.same in
-    let t = c.take_turn-machine.ensures.turn in
+    let t = turns_loaded world_means loads c.take_turn-machine.ensures.turn in
     let x = c.take_turn-machine.result in
     let m' = c.call_in_turn-turned.new.machine in
     let seq = c.args.made + 1 in
@@ -105,9 +109,10 @@ returns-clause-turned g c =
 pub returns-clause-back : goal.returns-clause-back
 returns-clause-back g c =
     let s = c.args.seat.now in
-    let s1 = c.take_turn-machine.new.seat in
+    let loads = c.call_in_turn-turned.new.seat.view.loads in
+    let s1 = with_loads loads c.take_turn-machine.new.seat in
     let same1 = c.take_turn-machine.ensures.same in
-    let t = c.take_turn-machine.ensures.turn in
+    let t = turns_loaded world_means loads c.take_turn-machine.ensures.turn in
     let x = c.take_turn-machine.result in
     let m' = c.call_in_turn-turned.new.machine in
     let seq = c.args.made + 1 in
@@ -131,9 +136,10 @@ returns-clause-back g c =
 pub returns-clause-cost : goal.returns-clause-cost
 returns-clause-cost g c =
     let s = c.args.seat.now in
-    let s1 = c.take_turn-machine.new.seat in
+    let loads = c.call_in_turn-turned.new.seat.view.loads in
+    let s1 = with_loads loads c.take_turn-machine.new.seat in
     let same1 = c.take_turn-machine.ensures.same in
-    let t = c.take_turn-machine.ensures.turn in
+    let t = turns_loaded world_means loads c.take_turn-machine.ensures.turn in
     let x = c.take_turn-machine.result in
     let m' = c.call_in_turn-turned.new.machine in
     let seq = c.args.made + 1 in

@@ -1,6 +1,7 @@
 use Rattle.std.proofs.Common.{arith, ap, sym, subst, ◌∙◌, ◌+◌, length, Some}
-use Rattle.live_table.specs.Batches.{words_of, OpsAt, first_of}
+use Rattle.live_table.specs.Batches.{words_of, OpsAt, first_of, first_rows}
 use Rattle.live_table.specs.Seats.{SeatValue}
+use Rattle.live_table.proofs.AfterSteps.{loaded_own, loaded_more}
 use Rattle.live_table.proofs.Cuts.{headed, heads_it, heads_some, cut_end, first_rows_of}
 use Rattle.live_table.proofs.table.LiveTable.batch.Goals as goal
 
@@ -40,7 +41,7 @@ ops_at-requires-clause-ops g c =
     (heads_it h c.unpack_head.result c.in-Some.head c.row.ensures.word c.unpack_head.ensures.inverts c.in-Some.is) in (
       h.batch.ops,
       subst (λ (s : SeatValue _). OpsAt (words_of s.view.journal) (c.args.at + 1) h.batch.ops)
-          (sym c.row.ensures.same) h.ops,
+          (sym c.row.ensures.loaded) h.ops,
       len,
     )
 
@@ -64,7 +65,7 @@ returns-clause-batch g c = λ front rest d.
     let head = heads_it h c.unpack_head.result c.in-Some.head c.row.ensures.word c.unpack_head.ensures.inverts c.in-Some.is in
     let ops = c.in_ok-ops.ensures.ops h.batch.ops
     (subst (λ (s : SeatValue _). OpsAt (words_of s.view.journal) (c.args.at + 1) h.batch.ops)
-    (sym c.row.ensures.same) h.ops) (ap (λ x. x.len) head) in
+    (sym c.row.ensures.loaded) h.ops) (ap (λ x. x.len) head) in
     (λ i. Some record { task = (head i).task; seq = (head i).seq; ops = ops i }) ∙ ap first_of (sym h.is)
 
 pub returns-clause-room : goal.returns-clause-room
@@ -78,7 +79,7 @@ returns-clause-room g c =
     let ops = ap length
     (c.in_ok-ops.ensures.ops h.batch.ops
     (subst (λ (s : SeatValue _). OpsAt (words_of s.view.journal) (c.args.at + 1) h.batch.ops)
-    (sym c.row.ensures.same) h.ops) (ap (λ x. x.len) head)) in
+    (sym c.row.ensures.loaded) h.ops) (ap (λ x. x.len) head)) in
     let fits = h.fits in
     omega arith
 
@@ -92,4 +93,57 @@ returns-clause-cost g c = λ front rest d.
     let all = first_rows_of h in
     let one = c.row.ensures.cost in
     let more = c.ops_at.ensures.cost in
+    omega arith
+
+pub returns-in_err-ops-clause-same : goal.returns-in_err-ops-clause-same
+returns-in_err-ops-clause-same g c = loaded_more c.args.seat.now (loaded_own c.args.seat.now c.row.ensures.loaded) c.ops_at.ensures.same
+
+pub returns-in_err-ops-clause-few : goal.returns-in_err-ops-clause-few
+returns-in_err-ops-clause-few g c = λ front rest d.
+    let rows = c.rows_seen.ensures.rows in
+    let inside = c.if-at-rows_seen.false in
+    let h = headed _ front rest c.args.at c.rows_seen.ensures.packed d (omega arith) in
+    let len = ap (λ x. x.len)
+    (heads_it h c.unpack_head.result c.in-Some.head c.row.ensures.word c.unpack_head.ensures.inverts c.in-Some.is) in
+    let all = first_rows_of h in
+    let one = ap (λ (s : SeatValue _). s.view.loads) c.row.ensures.loaded in
+    let more = c.ops_at.ensures.few in
+    let low = more.0 in
+    let high = more.1 in
+    (omega arith, omega arith)
+
+pub returns-clause-same : goal.returns-clause-same
+returns-clause-same g c = loaded_more c.args.seat.now (loaded_own c.args.seat.now c.row.ensures.loaded) c.ops_at.ensures.same
+
+pub returns-clause-few : goal.returns-clause-few
+returns-clause-few g c = λ front rest d.
+    let rows = c.rows_seen.ensures.rows in
+    let inside = c.if-at-rows_seen.false in
+    let h = headed _ front rest c.args.at c.rows_seen.ensures.packed d (omega arith) in
+    let len = ap (λ x. x.len)
+    (heads_it h c.unpack_head.result c.in-Some.head c.row.ensures.word c.unpack_head.ensures.inverts c.in-Some.is) in
+    let all = first_rows_of h in
+    let one = ap (λ (s : SeatValue _). s.view.loads) c.row.ensures.loaded in
+    let more = c.ops_at.ensures.few in
+    let low = more.0 in
+    let high = more.1 in
+    (omega arith, omega arith)
+
+pub returns-clause-loaded : goal.returns-clause-loaded
+returns-clause-loaded g c = λ front rest d.
+    let rows = c.rows_seen.ensures.rows in
+    let inside = c.if-at-rows_seen.false in
+    let h = headed _ front rest c.args.at c.rows_seen.ensures.packed d (omega arith) in
+    let len = ap (λ x. x.len)
+    (heads_it h c.unpack_head.result c.in-Some.head c.row.ensures.word c.unpack_head.ensures.inverts c.in-Some.is) in
+    let all = first_rows_of h in
+    let one = ap (λ (s : SeatValue _). s.view.loads) c.row.ensures.loaded in
+    let more = c.in_ok-ops.ensures.loaded in
+    omega arith
+
+pub returns-then-at-rows_seen-clause-loaded : goal.returns-then-at-rows_seen-clause-loaded
+returns-then-at-rows_seen-clause-loaded g c = λ front rest d.
+    let rows = c.rows_seen.ensures.rows in
+    let end = c.if-at-rows_seen.true in
+    let none = ap first_rows (cut_end d (omega arith)) in
     omega arith

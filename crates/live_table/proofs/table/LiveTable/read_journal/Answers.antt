@@ -1,6 +1,7 @@
 use Rattle.std.proofs.Common.{arith, refl, ap, sym, subst, ◌∙◌, ◌+◌, length}
 use Rattle.live_table.specs.Batches.{Cut}
 use Rattle.live_table.specs.Seats.{SeatValue}
+use Rattle.live_table.proofs.AfterSteps.{loaded_more}
 use Rattle.live_table.proofs.Cuts.{cut_start, reads_batch, reads_none}
 use Rattle.live_table.proofs.table.LiveTable.read_journal.Goals as goal
 
@@ -22,7 +23,7 @@ loop-journal-preserved g c =
     let r = reads_batch c.in_ok-batch.field-0 c.in-Some.batch v.2
     (c.in_ok-batch.ensures.batch _ _ cut) c.in-Some.is c.in_ok-push.ensures.ok
     (ap (λ n. c.loop-journal.at + (1 + n)) (ap length c.items.ensures)) in
-    (c.batch.ensures.same ∙ v.0, r.rest, r.cut)
+    (loaded_more c.args.seat.now v.0 c.batch.ensures.same, r.rest, r.cut)
 
 pub loop-journal-smaller : goal.loop-journal-smaller
 loop-journal-smaller g c =
