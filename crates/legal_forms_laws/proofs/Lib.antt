@@ -3,3 +3,12 @@ pub mod Same
 pub mod Names
 pub mod Entries
 pub mod Lines
+pub mod Members
+pub mod MadeCalls
+pub mod Forks
+pub mod Counting
+pub mod CallsAt
+pub mod Numbered
+pub mod Calls
+pub mod Walks
+pub mod Walked

@@ -23,9 +23,11 @@ names_decide names =
     })
     (λ table. (
       (λ i name at. stands_in (λ n. is_task_name n ≡ true) names i name table.are at),
-      ((λ pid name at. subst (λ (n : List ℕ). place_of names n ≡ pid) (get_or_from_slice_get names pid name [] at)
-      (table.once pid (slice_get_within names pid name at))),
-      table.some),
+      (
+        (λ pid name at. subst (λ (n : List ℕ). place_of names n ≡ pid) (get_or_from_slice_get names pid name [] at)
+            (table.once pid (slice_get_within names pid name at))),
+        table.some,
+      ),
     ))
     (Decides-and (list_all is_task_name names) _
     (list_all_decides is_task_name (λ name. is_task_name name ≡ true) (λ name. ((λ e. e), (λ e. e))) names)

@@ -35,8 +35,16 @@ modes_decide m n =
       append = all.1.1.1.0 i;
       transmute = all.1.1.1.1.0 i;
       bring_up = all.1.1.1.1.1 i;
-    }) (λ is. (ap (λ (x : Modes). x.read) is, (ap (λ (x : Modes). x.write) is, (ap (λ (x : Modes). x.execute) is,
-    (ap (λ (x : Modes). x.append) is, (ap (λ (x : Modes). x.transmute) is, ap (λ (x : Modes). x.bring_up) is)))))) (Decides-and _ _ (booleans_Decides m.read n.read) (Decides-and _ _ (booleans_Decides m.write n.write)
+    }) (λ is. (
+      ap (λ (x : Modes). x.read) is,
+      (
+        ap (λ (x : Modes). x.write) is,
+        (
+          ap (λ (x : Modes). x.execute) is,
+          (ap (λ (x : Modes). x.append) is, (ap (λ (x : Modes). x.transmute) is, ap (λ (x : Modes). x.bring_up) is)),
+        ),
+      ),
+    )) (Decides-and _ _ (booleans_Decides m.read n.read) (Decides-and _ _ (booleans_Decides m.write n.write)
     (Decides-and _ _ (booleans_Decides m.execute n.execute) (Decides-and _ _ (booleans_Decides m.append n.append)
     (Decides-and _ _ (booleans_Decides m.transmute n.transmute) (booleans_Decides m.bring_up n.bring_up))))))
 
@@ -52,8 +60,16 @@ verdict_decides v w =
       subject = all.1.1.1.0 i;
       object = all.1.1.1.1.0 i;
       modes = all.1.1.1.1.1 i;
-    }) (λ is. (ap (λ (x : Verdict). x.allowed) is, (ap (λ (x : Verdict). x.case) is, (ap (λ (x : Verdict). x.over) is,
-    (ap (λ (x : Verdict). x.subject) is, (ap (λ (x : Verdict). x.object) is, ap (λ (x : Verdict). x.modes) is)))))) (Decides-and _ _ (booleans_Decides v.allowed w.allowed) (Decides-and _ _ (Decides-eqb v.case w.case)
+    }) (λ is. (
+      ap (λ (x : Verdict). x.allowed) is,
+      (
+        ap (λ (x : Verdict). x.case) is,
+        (
+          ap (λ (x : Verdict). x.over) is,
+          (ap (λ (x : Verdict). x.subject) is, (ap (λ (x : Verdict). x.object) is, ap (λ (x : Verdict). x.modes) is)),
+        ),
+      ),
+    )) (Decides-and _ _ (booleans_Decides v.allowed w.allowed) (Decides-and _ _ (Decides-eqb v.case w.case)
     (Decides-and _ _ (Decides-eqb v.over w.over) (Decides-and _ _ (label_decides v.subject w.subject)
     (Decides-and _ _ (label_decides v.object w.object) (modes_decide v.modes w.modes))))))
 

@@ -3,7 +3,7 @@
 //! Laws of the definitions alone. A law is the contract of a function without a body.
 #![tactic(auto)]
 
-ghost use Rattle.legal_forms.specs.Laws.{NamesAreDecided, EntriesAreDecided, BatchesAreDecided, LinesAreDecided};
+ghost use Rattle.legal_forms.specs.Laws.{NamesAreDecided, EntriesAreDecided, BatchesAreDecided, LinesAreDecided, CallsAreDecided};
 
 /// Whether the names of a record are names of tasks, and distinct.
 pub fn names_are_decided()
@@ -23,4 +23,9 @@ pub fn batches_are_decided()
 /// Whether its asked, refused and waited lines are so.
 pub fn lines_are_decided()
     ensures { LinesAreDecided }
+{}
+
+/// Whether each call stands once and in order.
+pub fn calls_are_decided()
+    ensures { CallsAreDecided }
 {}
