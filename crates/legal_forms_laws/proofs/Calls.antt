@@ -75,7 +75,7 @@ module _ (r : RunRecord) where
   of_list task once seq =
       sym (counts_at r task seq) ∙ once seq ∙ ap (λ (n : ℕ). if◌then◌else◌ {A = ℕ} (nat_le 1 seq && nat_le seq n) 1 0) (counts_of r task)
 
-  to_list : AreOnce → (task : ℕ) → IsOnce (made_calls r) task
+  pub to_list : AreOnce → (task : ℕ) → IsOnce (made_calls r) task
   to_list once task seq =
       counts_at r task seq ∙ once task seq ∙ ap (λ (n : ℕ). if◌then◌else◌ {A = ℕ} (nat_le 1 seq && nat_le seq n) 1 0) (sym (counts_of r task))
 
@@ -131,7 +131,7 @@ module _ (r : RunRecord) where
   }
 
 -- the first of two tests, and the second where what the first says is so
-both_decide : {P Q : Type 0} (a b : Bool) → Decides a P → (P → Decides b Q) → Decides (a && b) (P × Q)
+pub both_decide : {P Q : Type 0} (a b : Bool) → Decides a P → (P → Decides b Q) → Decides (a && b) (P × Q)
 both_decide true b first second = Decides-and true b first (second (first.0 refl))
 both_decide false b first second = ((λ e. absurd (wrong e)), (λ both. first.1 both.0))
   where

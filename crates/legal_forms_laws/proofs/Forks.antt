@@ -40,7 +40,7 @@ fork_made e t = by (forked e.call) (child_number e.reply) refl refl
           is_child e.reply t.number (reply ∙ ap (λ (x : NumberedTask). Some x.number) same),
         )
 
-made_fork : (e : Entry) (k : ℕ) (pid : Pid) → IsForkOf e k pid → child_of e ≡ Some (record { number = k; pid = pid })
+pub made_fork : (e : Entry) (k : ℕ) (pid : Pid) → IsForkOf e k pid → child_of e ≡ Some (record { number = k; pid = pid })
 made_fork e k pid is i = child_by (forked (is.0 i)) (child_number (is.1 i))
 
 -- a fork of an entry

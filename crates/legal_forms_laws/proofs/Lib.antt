@@ -12,3 +12,6 @@ pub mod Numbered
 pub mod Calls
 pub mod Walks
 pub mod Walked
+pub mod Lineages
+pub mod Fresh
+pub mod Whole

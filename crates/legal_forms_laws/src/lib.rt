@@ -3,7 +3,7 @@
 //! Laws of the definitions alone. A law is the contract of a function without a body.
 #![tactic(auto)]
 
-ghost use Rattle.legal_forms.specs.Laws.{NamesAreDecided, EntriesAreDecided, BatchesAreDecided, LinesAreDecided, CallsAreDecided};
+ghost use Rattle.legal_forms.specs.Laws.{NamesAreDecided, EntriesAreDecided, BatchesAreDecided, LinesAreDecided, CallsAreDecided, FreshnessIsDecided, LegalityIsDecided};
 
 /// Whether the names of a record are names of tasks, and distinct.
 pub fn names_are_decided()
@@ -28,4 +28,15 @@ pub fn lines_are_decided()
 /// Whether each call stands once and in order.
 pub fn calls_are_decided()
     ensures { CallsAreDecided }
+{}
+
+/// Whether no call is judged in a version older than its task had seen or been told of, where each
+/// call stands once and in order.
+pub fn freshness_is_decided()
+    ensures { FreshnessIsDecided }
+{}
+
+/// Whether a record is legal.
+pub fn legality_is_decided()
+    ensures { LegalityIsDecided }
 {}
