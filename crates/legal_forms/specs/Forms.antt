@@ -1,4 +1,4 @@
-use Rattle.std.specs.Prelude.{ℕ, zero, suc, ◌+◌, Bool, true, false, not, ◌&&◌, ◌||◌, ◌==◌, List, [], ◌∷◌, Option, Some, None, length, take, is_some, nat_lt, nat_le, slice_index_or}
+use Rattle.std.specs.Prelude.{ℕ, zero, suc, ◌+◌, Bool, true, false, not, ◌&&◌, ◌||◌, ◌==◌, List, [], ◌∷◌, Option, Some, None, length, take, is_some, nat_lt, nat_le}
 use Rattle.std.specs.List.{list_all, list_any}
 use Rattle.smack_base.specs.declared.ids.Pid.{Pid}
 use Rattle.smack_base.specs.declared.cap.Cap.TheVariants as Cap
@@ -6,7 +6,6 @@ use Rattle.rules_spec.specs.declared.Batch.{Batch}
 use Rattle.rules_spec.specs.Cases.{verdict_of_cases}
 use Rattle.rules_spec.specs.Creds.{is_effective}
 use Rattle.file_spec.specs.declared.Refusal.{Refusal}
-use Rattle.file_spec.specs.declared.Refusal.TheVariants as Refusal
 use Rattle.file_spec.specs.Writes.{rule_file}
 use Rattle.text_spec.specs.Names.{place_of}
 use Rattle.script_spec.specs.Words.{is_task_name}
@@ -15,7 +14,6 @@ use Rattle.world_spec.specs.Worlds.{World, world_first}
 use Rattle.world_spec.specs.Replays.{version_of, step_of, after_entry, cred_at}
 use Rattle.record_spec.specs.declared.AskedLine.{AskedLine}
 use Rattle.record_spec.specs.declared.AskedWhat.{AskedWhat}
-use Rattle.record_spec.specs.declared.AskedWhat.TheVariants as AskedWhat
 use Rattle.record_spec.specs.declared.RunRecord.{RunRecord}
 use Rattle.legal_spec.specs.Legal.{rows_of}
 use Rattle.legal_forms.specs.Same.{same_verdict, same_checks, same_reply}

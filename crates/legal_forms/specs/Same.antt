@@ -4,9 +4,7 @@ use Rattle.std.specs.Str.{bytes_eq}
 use Rattle.smack_base.specs.declared.modes.Modes.{Modes}
 use Rattle.rules_spec.specs.declared.Verdict.{Verdict}
 use Rattle.world_spec.specs.declared.Why.{Why}
-use Rattle.world_spec.specs.declared.Why.TheVariants as Why
 use Rattle.world_spec.specs.declared.Reply.{Reply}
-use Rattle.world_spec.specs.declared.Reply.TheVariants as Reply
 
 -- two lists have the same elements, as a test of two says
 abbrev pub same_lists : {X : Type 0} → (X → X → Bool) → List X → List X → Bool

@@ -1,5 +1,5 @@
 -- Each call once and in order.
-use Rattle.std.proofs.Common.{◌≡◌, ◌≤◌, ◌<◌, ◌⊎◌, ⊎_elim, inl, inr, ℕ, suc, Bool, true, false, not, ◌&&◌, ◌||◌, ◌==◌, cond, if◌then◌else◌, nat_le, nat_lt, List, [], ◌∷◌, refl, sym, ap, ◌∙◌, subst, arith}
+use Rattle.std.proofs.Common.{◌≡◌, ◌<◌, ⊎_elim, ℕ, Bool, true, false, not, ◌&&◌, ◌||◌, ◌==◌, if◌then◌else◌, nat_le, nat_lt, List, ◌∷◌, refl, sym, ap, ◌∙◌, subst, arith}
 use Rattle.std.specs.Bool.{Decides}
 use Rattle.std.specs.List.{list_all, list_any}
 use Rattle.std.proofs.lemmas.Bool.{cases_lt}
@@ -11,12 +11,12 @@ use Rattle.record_spec.specs.declared.RunRecord.{RunRecord}
 use Rattle.replay_spec.specs.Laws.{calls_at}
 use Rattle.legal_spec.specs.Calls.{Stands, IsForkOf, IsTask, IsCall, IsBefore, call_count}
 use Rattle.legal_spec.specs.Legal.{IsEachCallOnce}
-use Rattle.legal_forms.specs.MadeCalls.{MadeCall, made_calls, count_of, call_at, MadeFork, forks_of, has_number, task_numbers}
+use Rattle.legal_forms.specs.MadeCalls.{made_calls, count_of, call_at, forks_of, has_number, task_numbers}
 use Rattle.legal_forms.specs.Forms.{all_behind, has_each, are_numbered, rises_behind, comes_before, are_of_tasks, was_forked_before, is_each_call_once}
 use Rattle.legal_forms.specs.Laws.{CallsAreDecided}
-use Rattle.legal_forms_laws.proofs.Quantified.{Each, Some_of, EachPair, EachPairOrSelf, list_all_decides, list_any_decides, all_pairs_decide, all_selves_decide}
+use Rattle.legal_forms_laws.proofs.Quantified.{Each, EachPair, EachPairOrSelf, list_all_decides, list_any_decides, all_pairs_decide, all_selves_decide}
 use Rattle.legal_forms_laws.proofs.Members.{Has, has_there, place_of_one}
-use Rattle.legal_forms_laws.proofs.MadeCalls.{is_made, made_is, count_at, counts_at, counts_of}
+use Rattle.legal_forms_laws.proofs.MadeCalls.{is_made, made_is, counts_at, counts_of}
 use Rattle.legal_forms_laws.proofs.Forks.{has_fork, fork_has, number_decides, task_decides}
 use Rattle.legal_forms_laws.proofs.Numbered.{IsOnce, numbers_decide, none_once}
 

@@ -1,5 +1,5 @@
 -- The walk along a history decides whether its entries are judged.
-use Rattle.std.proofs.Common.{◌≡◌, ◌≤◌, ℕ, zero, suc, Bool, ◌&&◌, List, [], ◌∷◌, length, take, fold, refl, subst, le-leb}
+use Rattle.std.proofs.Common.{◌≡◌, ◌≤◌, ℕ, zero, suc, ◌&&◌, List, [], ◌∷◌, length, take, fold, refl, subst, le-leb}
 use Rattle.std.specs.Prelude.{nat_le}
 use Rattle.std.specs.Bool.{Decides}
 use Rattle.std.proofs.lemmas.Bool.{leb-true}
@@ -9,16 +9,14 @@ use Rattle.rules_spec.specs.declared.Verdict.{Verdict}
 use Rattle.world_spec.specs.declared.Entry.{Entry}
 use Rattle.world_spec.specs.Worlds.{World, world_first}
 use Rattle.world_spec.specs.Replays.{step_of, after_entry}
-use Rattle.record_spec.specs.declared.RunRecord.{RunRecord}
 use Rattle.legal_spec.specs.Calls.{Stands}
 use Rattle.legal_spec.specs.Entries.{ShowsAs, AreShownAs}
-use Rattle.legal_spec.specs.Legal.{AreJudged}
-use Rattle.legal_replays.proofs.Places.{same_some}
-use Rattle.legal_replays.proofs.Steps.{shown_as_is, as_judged}
+use Rattle.legal_forms_laws.proofs.Steps.{shown_as_is, as_judged}
 use Rattle.legal_forms.specs.Same.{same_checks, same_reply}
 use Rattle.legal_forms.specs.Forms.{is_entry, are_entries}
 use Rattle.legal_forms.specs.Laws.{EntriesAreDecided}
 use Rattle.legal_forms_laws.proofs.Same.{checks_decide, reply_decides}
+use Rattle.legal_forms_laws.proofs.Members.{same_some}
 
 pub le_decides : (a b : ℕ) → Decides (nat_le a b) (a ≤ b)
 le_decides a b = (leb-true a b, le-leb a b)

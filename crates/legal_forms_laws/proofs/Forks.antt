@@ -1,23 +1,18 @@
 -- The list of forks has the forks of the history, and the list of numbers those of its tasks.
-use Rattle.std.proofs.Common.{◌≡◌, ◌⊎◌, ⊎_elim, inl, inr, ℕ, zero, suc, Bool, true, ◌==◌, List, [], ◌∷◌, ◌++◌, map, Option, Some, None, refl, sym, ap, ◌∙◌, subst}
-use Rattle.std.specs.List.{list_any, flat_map}
+use Rattle.std.proofs.Common.{◌≡◌, ◌⊎◌, inl, inr, ℕ, zero, suc, ◌==◌, List, [], ◌∷◌, Option, Some, None, refl, sym, ap, ◌∙◌, subst}
 use Rattle.std.specs.Bool.{Decides}
 use Rattle.std.proofs.lemmas.Bool.Decides.{Decides-like, Decides-eqb}
 use Rattle.smack_base.specs.declared.ids.Pid.{Pid}
 use Rattle.world_spec.specs.declared.TaskCall.{TaskCall}
-use Rattle.world_spec.specs.declared.TaskCall.TheVariants as TaskCall
 use Rattle.world_spec.specs.declared.Call.{Call}
-use Rattle.world_spec.specs.declared.Call.TheVariants as Call
 use Rattle.world_spec.specs.declared.Reply.{Reply}
-use Rattle.world_spec.specs.declared.Reply.TheVariants as Reply
 use Rattle.world_spec.specs.declared.Entry.{Entry}
 use Rattle.record_spec.specs.declared.NumberedTask.{NumberedTask}
 use Rattle.record_spec.specs.Tasks.{forked, child_number, child_by, child_of}
 use Rattle.legal_spec.specs.Calls.{Stands, IsForkOf, IsTask}
-use Rattle.legal_replays.proofs.Places.{same_some}
 use Rattle.legal_forms.specs.MadeCalls.{MadeFork, fork_by, forks_of, has_number, task_numbers}
-use Rattle.legal_forms_laws.proofs.Members.{Has, has_there, place_of_one, has_left, has_right, has_either, has_image, has_source}
-use Rattle.legal_forms_laws.proofs.Quantified.{Some_of, list_any_decides}
+use Rattle.legal_forms_laws.proofs.Members.{same_some, Has, has_there, place_of_one, has_left, has_right, has_either, has_image, has_source}
+use Rattle.legal_forms_laws.proofs.Quantified.{list_any_decides}
 
 is_fork : (call : Call) (pid : Pid) → forked call ≡ Some pid → call ≡ Call.Task (TaskCall.Fork pid)
 is_fork (Call.Task (TaskCall.Fork p)) pid is = ap (λ x. Call.Task (TaskCall.Fork x)) (same_some p pid is)

@@ -1,21 +1,20 @@
 -- No call is judged in a version older than its task had seen or been told of.
-use Rattle.std.proofs.Common.{◌≡◌, ◌≤◌, ◌<◌, ◌⊎◌, ⊎_elim, inl, inr, ℕ, Bool, true, false, not, ◌&&◌, ◌||◌, ◌==◌, cond, if◌then◌else◌, max, nat_le, nat_lt, List, [], ◌∷◌, refl, sym, ap, ◌∙◌, subst, arith}
+use Rattle.std.proofs.Common.{◌≡◌, ◌≤◌, ◌<◌, ⊎_elim, inl, inr, ℕ, Bool, true, false, not, ◌&&◌, ◌||◌, ◌==◌, cond, max, nat_le, nat_lt, List, [], ◌∷◌, refl, ap, ◌∙◌, subst, arith}
 use Rattle.std.specs.Bool.{Decides}
-use Rattle.std.specs.List.{list_all, list_any}
+use Rattle.std.specs.List.{list_all}
 use Rattle.std.proofs.lemmas.Bool.{cases_lt, eqb-true, eq-eqb}
 use Rattle.std.proofs.lemmas.Bool.Decides.{Decides-and, Decides-not, Decides-like, Decides-eqb, Decides-ltb}
 use Rattle.smack_base.specs.declared.ids.Pid.{Pid}
 use Rattle.world_spec.specs.declared.Entry.{Entry}
 use Rattle.record_spec.specs.declared.AskedLine.{AskedLine}
 use Rattle.record_spec.specs.declared.AskedWhat.{AskedWhat}
-use Rattle.record_spec.specs.declared.AskedWhat.TheVariants as AskedWhat
 use Rattle.record_spec.specs.declared.RunRecord.{RunRecord}
-use Rattle.legal_spec.specs.Calls.{Stands, IsForkOf, IsTask, IsCall, batch, entry, asked, Descends}
-use Rattle.legal_spec.specs.Legal.{IsEachCallOnce, HasWaited, IsFresh}
+use Rattle.legal_spec.specs.Calls.{Stands, IsForkOf, IsCall, batch, entry, asked, Descends}
+use Rattle.legal_spec.specs.Legal.{IsEachCallOnce, HasWaited}
 use Rattle.legal_forms.specs.MadeCalls.{MadeCall, made_calls, MadeFork, forks_of, has_number, task_numbers, version_told, descendants}
 use Rattle.legal_forms.specs.Forms.{all_behind, has_fresh_calls, none_late, is_told, is_awaited, has_waited, is_fresh}
 use Rattle.legal_forms.specs.Laws.{FreshnessIsDecided}
-use Rattle.legal_forms_laws.proofs.Quantified.{Each, Some_of, EachPairOrSelf, list_all_decides, list_any_decides, all_selves_decide}
+use Rattle.legal_forms_laws.proofs.Quantified.{Each, Some_of, list_all_decides, list_any_decides, all_selves_decide}
 use Rattle.legal_forms_laws.proofs.Members.{Has, has_there, place_of_one}
 use Rattle.legal_forms_laws.proofs.MadeCalls.{is_made, made_is}
 use Rattle.legal_forms_laws.proofs.Forks.{fork_of_entry, has_fork, fork_has, number_decides, task_decides}

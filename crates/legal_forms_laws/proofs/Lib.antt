@@ -1,9 +1,10 @@
+pub mod Members
 pub mod Quantified
+pub mod Steps
 pub mod Same
 pub mod Names
 pub mod Entries
 pub mod Lines
-pub mod Members
 pub mod MadeCalls
 pub mod Forks
 pub mod Counting

@@ -1,6 +1,5 @@
 -- One pass over the forks tells who descends from a task: what a child forks stands behind the fork that made it.
-use Rattle.std.proofs.Common.{◌≡◌, ◌≤◌, ◌<◌, ◌⊎◌, ⊎_elim, inl, inr, ℕ, zero, suc, ◌+◌, Bool, true, false, if◌then◌else◌, List, [], ◌∷◌, ◌++◌, length, fold, Option, Some, refl, sym, ap, ◌∙◌, subst, arith}
-use Rattle.std.specs.List.{flat_map}
+use Rattle.std.proofs.Common.{◌≡◌, ◌<◌, ◌⊎◌, ⊎_elim, inl, inr, ℕ, zero, suc, ◌+◌, Bool, true, false, if◌then◌else◌, List, [], ◌∷◌, ◌++◌, length, fold, refl, sym, ap, ◌∙◌, subst, arith}
 use Rattle.std.specs.Bool.{Decides}
 use Rattle.std.proofs.lemmas.Bool.Decides.{Decides-like}
 use Rattle.std.proofs.lemmas.Grind.{flat_map-append}
@@ -9,9 +8,8 @@ use Rattle.smack_base.specs.declared.ids.Pid.{Pid}
 use Rattle.world_spec.specs.declared.Entry.{Entry}
 use Rattle.record_spec.specs.Tasks.{child_of}
 use Rattle.legal_spec.specs.Calls.{Stands, IsForkOf, Descends, itself, child}
-use Rattle.legal_replays.proofs.Places.{same_some}
 use Rattle.legal_forms.specs.MadeCalls.{MadeFork, fork_by, forks_of, has_number, with_descendant, descendants}
-use Rattle.legal_forms_laws.proofs.Members.{Has, has_left}
+use Rattle.legal_forms_laws.proofs.Members.{same_some, Has}
 use Rattle.legal_forms_laws.proofs.Forks.{made_fork, fork_of_entry, IsForkIn, fork_has, number_decides}
 
 -- what stands before a place, and what behind it

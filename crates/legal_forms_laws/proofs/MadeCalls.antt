@@ -1,5 +1,5 @@
 -- The list of calls has the calls of the record, and as many.
-use Rattle.std.proofs.Common.{◌≡◌, ◌⊎◌, ⊎_elim, inl, inr, ℕ, zero, suc, ◌+◌, Bool, ◌==◌, cond, List, [], ◌∷◌, ◌++◌, map, refl, sym, ap, ◌∙◌, subst, arith}
+use Rattle.std.proofs.Common.{◌≡◌, ⊎_elim, inl, inr, ℕ, zero, suc, ◌+◌, Bool, ◌==◌, cond, List, [], ◌∷◌, ◌++◌, map, refl, sym, ap, ◌∙◌, subst, arith}
 use Rattle.std.specs.List.{count_by}
 use Rattle.std.proofs.lemmas.List.Sums.{sum_by-cons, sum_by-append}
 use Rattle.rules_spec.specs.declared.Batch.{Batch}
@@ -8,9 +8,8 @@ use Rattle.record_spec.specs.declared.AskedLine.{AskedLine}
 use Rattle.record_spec.specs.declared.RunRecord.{RunRecord}
 use Rattle.replay_spec.specs.Laws.{is_call, calls_at}
 use Rattle.legal_spec.specs.Calls.{Stands, IsCall, batch, entry, asked, call_count}
-use Rattle.legal_replays.proofs.Places.{same_some}
 use Rattle.legal_forms.specs.MadeCalls.{MadeCall, batch_calls, entry_call, asked_call, made_calls, count_of}
-use Rattle.legal_forms_laws.proofs.Members.{Has, has_there, place_of_one, has_left, has_right, has_either, has_image, has_source}
+use Rattle.legal_forms_laws.proofs.Members.{same_some, Has, has_there, place_of_one, has_left, has_right, has_either, has_image, has_source}
 
 abbrev batch_call : ℕ → Batch → MadeCall
 batch_call i b = record { task = b.task; seq = b.seq; needs = i; reaches = i + 1 }

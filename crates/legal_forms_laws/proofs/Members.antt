@@ -1,7 +1,19 @@
--- What a list has.
-use Rattle.std.proofs.Common.{◌≡◌, ◌⊎◌, ⊎_elim, inl, inr, ℕ, zero, suc, List, [], ◌∷◌, ◌++◌, map, Some, refl, ap}
+-- What a list has, and where.
+use Rattle.std.proofs.Common.{◌≡◌, ◌⊎◌, ⊎_elim, inl, inr, ℕ, zero, suc, List, [], ◌∷◌, ◌++◌, map, Option, Some, refl, ap, subst}
+use Rattle.std.specs.List.{AllByRecursion}
 use Rattle.legal_spec.specs.Calls.{Stands}
-use Rattle.legal_replays.proofs.Places.{same_some}
+
+pub same_some : {X : Type 0} (x y : X) → ◌≡◌ {A = Option X} (Some x) (Some y) → x ≡ y
+same_some x y is = cc
+
+pub stands_in : {X : Type 0} (P : X → Type 0) (xs : List X) (i : ℕ) (x : X) → AllByRecursion P xs → Stands xs i x → P x
+stands_in P [] i x all at = cc
+stands_in P (z ∷ zs) zero x all at = subst P (same_some z x at) all.0
+stands_in P (z ∷ zs) (suc i) x all at = stands_in P zs i x all.1 at
+
+pub all_stand : {X : Type 0} (P : X → Type 0) (xs : List X) → ((i : ℕ) (x : X) → Stands xs i x → P x) → AllByRecursion P xs
+all_stand P [] each = tt
+all_stand P (x ∷ xs) each = (each zero x refl, all_stand P xs (λ i y at. each (suc i) y at))
 
 module _ {X : Type 0} where
   abbrev pub Has : List X → X → Type 0

@@ -1,17 +1,16 @@
-use Rattle.std.proofs.Common.{◌≡◌, ◌<◌, ℕ, Bool, true, ◌&&◌, ◌==◌, List, [], length, refl, subst}
+use Rattle.std.proofs.Common.{◌≡◌, ℕ, true, ◌==◌, List, [], length, subst}
 use Rattle.std.specs.Prelude.{nat_lt, slice_index_or}
 use Rattle.std.specs.Bool.{Decides}
-use Rattle.std.specs.List.{list_all, AllByRecursion}
+use Rattle.std.specs.List.{list_all}
 use Rattle.std.proofs.lemmas.Bool.Decides.{Decides-and, Decides-like, Decides-eqb, Decides-ltb}
 use Rattle.std.proofs.lemmas.Option.{slice_get_within, slice_get-get_or, get_or_from_slice_get}
 use Rattle.text_spec.specs.Names.{place_of}
 use Rattle.script_spec.specs.Words.{is_task_name}
 use Rattle.replay_spec.specs.Plain.{IsNameTable}
-use Rattle.legal_spec.specs.Calls.{Stands}
-use Rattle.legal_replays.proofs.Places.{stands_in, all_stand}
 use Rattle.legal_forms.specs.Forms.{all_from, are_names}
 use Rattle.legal_forms.specs.Laws.{NamesAreDecided}
-use Rattle.legal_forms_laws.proofs.Quantified.{Each, list_all_decides, all_at_decides}
+use Rattle.legal_forms_laws.proofs.Quantified.{list_all_decides, all_at_decides}
+use Rattle.legal_forms_laws.proofs.Members.{stands_in, all_stand}
 
 pub names_decide : (names : List (List ℕ)) → Decides (are_names names) (IsNameTable names)
 names_decide names =

@@ -1,5 +1,5 @@
 -- Where each of so many numbers has a call, each has just one.
-use Rattle.std.proofs.Common.{◌≡◌, ◌≤◌, ◌<◌, ℕ, zero, suc, ◌+◌, Bool, true, false, ◌&&◌, ◌==◌, cond, if◌then◌else◌, nat_le, List, [], ◌∷◌, Option, Some, None, refl, sym, ap, ◌∙◌, subst, arith, inl, inr}
+use Rattle.std.proofs.Common.{◌≡◌, ◌≤◌, ◌<◌, ℕ, zero, suc, ◌+◌, true, ◌&&◌, ◌==◌, cond, if◌then◌else◌, nat_le, List, [], ◌∷◌, Option, Some, None, refl, sym, ap, ◌∙◌, subst, arith, inl, inr}
 use Rattle.std.specs.Prelude.{is_some}
 use Rattle.std.specs.Bool.{Decides}
 use Rattle.std.proofs.lemmas.Bool.{le-leb, ne_eqb}
@@ -8,7 +8,7 @@ use Rattle.legal_forms.specs.MadeCalls.{MadeCall, count_of, call_at}
 use Rattle.legal_forms.specs.Forms.{has_each}
 use Rattle.legal_forms_laws.proofs.Members.{Has}
 use Rattle.legal_forms_laws.proofs.MadeCalls.{count_at, count-cons}
-use Rattle.legal_forms_laws.proofs.Counting.{Filled, once_filled}
+use Rattle.legal_forms_laws.proofs.Counting.{once_filled}
 use Rattle.legal_forms_laws.proofs.CallsAt.{call_is, call_some}
 
 module _ (call : ℕ → Option MadeCall) where

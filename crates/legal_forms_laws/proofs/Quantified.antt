@@ -1,11 +1,11 @@
 -- Tests of all elements of a list, and of some element, decide what is said of the places of the list.
-use Rattle.std.proofs.Common.{◌≡◌, ◌≤◌, ◌<◌, ◌↔◌, ◌⊎◌, ⊎_elim, inl, inr, ℕ, zero, suc, ◌+◌, Bool, true, false, ◌&&◌, ◌||◌, List, [], ◌∷◌, refl, subst, arith}
+use Rattle.std.proofs.Common.{◌≡◌, ◌≤◌, ◌<◌, ◌⊎◌, inl, inr, ℕ, zero, suc, ◌+◌, Bool, ◌&&◌, ◌||◌, List, [], ◌∷◌, refl, subst, arith}
 use Rattle.std.specs.Bool.{Decides}
 use Rattle.std.specs.List.{list_all, list_any}
 use Rattle.std.proofs.lemmas.Bool.Decides.{Decides-and, Decides-or, Decides-like}
 use Rattle.legal_spec.specs.Calls.{Stands}
-use Rattle.legal_replays.proofs.Places.{same_some}
 use Rattle.legal_forms.specs.Forms.{all_from, all_behind}
+use Rattle.legal_forms_laws.proofs.Members.{same_some}
 
 module _ {X : Type 0} where
   -- what holds of each place of a list

@@ -1,10 +1,5 @@
 -- The whole.
-use Rattle.std.proofs.Common.{◌&&◌}
-use Rattle.std.specs.Bool.{Decides}
 use Rattle.std.proofs.lemmas.Bool.Decides.{Decides-and, Decides-like}
-use Rattle.record_spec.specs.declared.RunRecord.{RunRecord}
-use Rattle.replay_spec.specs.Plain.{IsNameTable}
-use Rattle.legal_spec.specs.Legal.{IsEachCallOnce, AreJudged, ArePrivileged, AreAnswered, IsFresh, IsLegal}
 use Rattle.legal_forms.specs.Forms.{are_names, is_each_call_once, are_judged, are_privileged, are_answered, is_fresh, is_legal}
 use Rattle.legal_forms.specs.Laws.{LegalityIsDecided}
 use Rattle.legal_forms_laws.proofs.Names.{names_decide}

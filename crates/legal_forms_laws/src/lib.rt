@@ -1,9 +1,17 @@
-//! The tests of `legal_forms` decide the clauses of a legal record.
+//! The tests of `legal_forms` decide the clauses of a legal record; and object calls that are steps
+//! of one world, as a kernel makes them, are judged as such a record asks.
 //!
 //! Laws of the definitions alone. A law is the contract of a function without a body.
 #![tactic(auto)]
 
 ghost use Rattle.legal_forms.specs.Laws.{NamesAreDecided, EntriesAreDecided, BatchesAreDecided, LinesAreDecided, CallsAreDecided, FreshnessIsDecided, LegalityIsDecided};
+ghost use Rattle.legal_spec.specs.Laws.{StepsAreJudged};
+
+/// Object calls that are steps of one world, in versions that never fall, are judged as a legal
+/// record asks; and where each check is shown as it was judged, only such calls are.
+pub fn steps_are_judged()
+    ensures { StepsAreJudged }
+{}
 
 /// Whether the names of a record are names of tasks, and distinct.
 pub fn names_are_decided()

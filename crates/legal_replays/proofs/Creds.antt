@@ -16,7 +16,7 @@ use Rattle.world_replays.proofs.Standing.{longer_stands}
 use Rattle.world_replays.proofs.Points.{kept_at, at_is_now}
 use Rattle.plain_records.proofs.GoodLines.{IsGoodLine}
 use Rattle.replayed_records.proofs.InStep.{IsInStep}
-use Rattle.legal_replays.proofs.Places.{all_stand}
+use Rattle.legal_forms_laws.proofs.Members.{all_stand}
 use Rattle.legal_replays.proofs.Runs.{batch_by, entry_by, IsNext, batch, entry, asked, Replays}
 use Rattle.legal_replays.proofs.Growth.{IsWithin, calls_within}
 use Rattle.legal_replays.proofs.Judged.{run_stands}

@@ -12,8 +12,9 @@ use Rattle.replay_spec.specs.Replays.{Run}
 use Rattle.legal_spec.specs.Calls.{Stands, entry as entry_call}
 use Rattle.legal_spec.specs.Legal.{AreJudged}
 use Rattle.world_replays.proofs.Standing.{first_stands, step_stands, longer_stands}
-use Rattle.legal_replays.proofs.Places.{stands_more, stands_in}
-use Rattle.legal_replays.proofs.Steps.{are_judged}
+use Rattle.legal_forms_laws.proofs.Members.{stands_in}
+use Rattle.legal_replays.proofs.Places.{stands_more}
+use Rattle.legal_forms_laws.proofs.Steps.{are_judged}
 use Rattle.legal_replays.proofs.Runs.{batch_by, entry_by, IsNext, batch, entry, asked, Replays, first, more}
 use Rattle.legal_replays.proofs.Growth.{record_of, calls_within}
 

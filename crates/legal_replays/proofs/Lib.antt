@@ -2,7 +2,6 @@ pub mod Places
 pub mod TextRefusals
 pub mod Runs
 pub mod Growth
-pub mod Steps
 pub mod Judged
 pub mod Children
 pub mod Creds

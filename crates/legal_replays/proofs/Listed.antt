@@ -7,7 +7,8 @@ use Rattle.record_spec.specs.declared.AskedLine.{AskedLine}
 use Rattle.replay_spec.specs.Replays.{Run, is_before, with_asked}
 use Rattle.legal_spec.specs.Calls.{Stands, IsBefore, asked as asked_call}
 use Rattle.plain_records.proofs.Lists.{all_follow}
-use Rattle.legal_replays.proofs.Places.{same_some, stands_in, all_stand, asked_more}
+use Rattle.legal_forms_laws.proofs.Members.{same_some, stands_in, all_stand}
+use Rattle.legal_replays.proofs.Places.{asked_more}
 use Rattle.legal_replays.proofs.Runs.{asked_by, IsNext, batch, entry, asked, Replays, first, more}
 use Rattle.legal_replays.proofs.Growth.{calls_within}
 

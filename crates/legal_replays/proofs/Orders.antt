@@ -6,12 +6,12 @@ use Rattle.script_spec.specs.Lines.{ScriptLine}
 use Rattle.script_spec.specs.Tasks.{calls_by, parents_in, task_names}
 use Rattle.world_spec.specs.declared.TaskCall.TheVariants as TaskCall
 use Rattle.world_spec.specs.declared.Call.{Call}
-use Rattle.world_spec.specs.declared.Call.TheVariants as Call
 use Rattle.world_spec.specs.declared.Entry.{Entry}
 use Rattle.world_spec.specs.Steps.{step}
 use Rattle.replay_spec.specs.Replays.{Run}
 use Rattle.legal_spec.specs.Calls.{Stands, IsForkOf, IsNumberOf, entry as entry_call}
-use Rattle.legal_replays.proofs.Places.{stands_more, stands_in}
+use Rattle.legal_forms_laws.proofs.Members.{stands_in}
+use Rattle.legal_replays.proofs.Places.{stands_more}
 use Rattle.legal_replays.proofs.Runs.{entry_by, IsNext, batch, entry, asked, Replays, first, more}
 use Rattle.legal_replays.proofs.Growth.{CallIn, call_grows, calls_within}
 use Rattle.legal_replays.proofs.Judged.{run_stands}

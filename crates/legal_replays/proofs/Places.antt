@@ -1,11 +1,8 @@
-use Rattle.std.proofs.Common.{◌≡◌, ◌⊎◌, ℕ, zero, suc, Bool, true, false, if◌then◌else◌, inl, inr, List, [], ◌∷◌, ◌++◌, length, refl, sym, ap, subst, Option, Some}
-use Rattle.std.specs.List.{AllByRecursion}
+use Rattle.std.proofs.Common.{◌≡◌, ◌⊎◌, ℕ, zero, suc, Bool, true, false, if◌then◌else◌, inl, inr, List, [], ◌∷◌, ◌++◌, length, refl, sym, ap}
 use Rattle.record_spec.specs.declared.AskedLine.{AskedLine}
 use Rattle.replay_spec.specs.Replays.{is_before, with_asked}
 use Rattle.legal_spec.specs.Calls.{Stands}
-
-pub same_some : {X : Type 0} (x y : X) → ◌≡◌ {A = Option X} (Some x) (Some y) → x ≡ y
-same_some x y is = cc
+use Rattle.legal_forms_laws.proofs.Members.{same_some}
 
 -- what stands in a list with one more stands in the list, or is the last
 pub stands_more : {X : Type 0} (xs : List X) (y : X) (i : ℕ) (x : X) → Stands (xs ++ y ∷ []) i x → Stands xs i x ⊎ ((i ≡ length xs) × (x ≡ y))
@@ -26,15 +23,6 @@ stands_front (z ∷ zs) ys (suc i) x at = stands_front zs ys i x at
 pub stands_last : {X : Type 0} (xs : List X) (y : X) → Stands (xs ++ y ∷ []) (length xs) y
 stands_last [] y = refl
 stands_last (z ∷ zs) y = stands_last zs y
-
-pub stands_in : {X : Type 0} (P : X → Type 0) (xs : List X) (i : ℕ) (x : X) → AllByRecursion P xs → Stands xs i x → P x
-stands_in P [] i x all at = cc
-stands_in P (z ∷ zs) zero x all at = subst P (same_some z x at) all.0
-stands_in P (z ∷ zs) (suc i) x all at = stands_in P zs i x all.1 at
-
-pub all_stand : {X : Type 0} (P : X → Type 0) (xs : List X) → ((i : ℕ) (x : X) → Stands xs i x → P x) → AllByRecursion P xs
-all_stand P [] each = tt
-all_stand P (x ∷ xs) each = (each zero x refl, all_stand P xs (λ i y at. each (suc i) y at))
 
 -- x stood among the asked lines, or is the new one
 abbrev pub IsOldOr : List AskedLine → AskedLine → AskedLine → Type 0

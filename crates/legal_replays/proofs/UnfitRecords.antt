@@ -6,9 +6,7 @@ use Rattle.rules_spec.specs.AskedModes.{read, write}
 use Rattle.rules_spec.specs.Versions.{floor}
 use Rattle.rules_spec.specs.declared.Batch.{Batch}
 use Rattle.file_spec.specs.declared.Refusal.{Refusal}
-use Rattle.file_spec.specs.declared.Refusal.TheVariants as Refusal
 use Rattle.file_spec.specs.declared.Compiled.{Compiled}
-use Rattle.file_spec.specs.declared.Compiled.TheVariants as Compiled
 use Rattle.world_spec.specs.declared.Call.TheVariants as Call
 use Rattle.world_spec.specs.declared.TaskCall.TheVariants as TaskCall
 use Rattle.world_spec.specs.declared.Entry.{Entry}
@@ -17,7 +15,7 @@ use Rattle.legal_spec.specs.Calls.{call_count}
 use Rattle.legal_spec.specs.Lines.{IsBatchOfLine, IsAskedOfLine}
 use Rattle.legal_spec.specs.Fits.{IsRecorded, batch as batch_of, entry as entry_of, asked as asked_of, FitsScript}
 use Rattle.legal_replays.specs.UnfitRecords.{take_line, write_line, line_left_out, line_twice, other_call, text_refused, text_published, other_labels, other_names, UnfitRecords}
-use Rattle.legal_replays.proofs.Places.{same_some}
+use Rattle.legal_forms_laws.proofs.Members.{same_some}
 
 left_out : FitsScript (take_line ∷ []) line_left_out → ⊥
 left_out fits = let wrong : ◌≡◌ {A = ℕ} 0 1 = (fits.tasks (record { 0 = 0 }) (omega arith)).many in omega (arith, wrong)

@@ -3,7 +3,6 @@ use Rattle.smack_base.specs.declared.ids.LabelId.{LabelId}
 use Rattle.smack_base.specs.declared.ids.Pid.{Pid}
 use Rattle.smack_base.specs.declared.cap.Cap.TheVariants as Cap
 use Rattle.smack_base.specs.declared.rule_op.RuleOp.{RuleOp}
-use Rattle.smack_base.specs.declared.rule_op.RuleOp.TheVariants as RuleOp
 use Rattle.text_spec.specs.Names.{predefined}
 use Rattle.rules_spec.specs.AskedModes.{read}
 use Rattle.rules_spec.specs.Versions.{floor}
@@ -12,15 +11,12 @@ use Rattle.rules_spec.specs.declared.Verdict.{Verdict}
 use Rattle.file_spec.specs.declared.Refusal.TheVariants as Refusal
 use Rattle.world_spec.specs.declared.Call.TheVariants as Call
 use Rattle.world_spec.specs.declared.TaskCall.{TaskCall}
-use Rattle.world_spec.specs.declared.TaskCall.TheVariants as TaskCall
 use Rattle.world_spec.specs.declared.TreeCall.TheVariants as TreeCall
 use Rattle.world_spec.specs.declared.Reply.{Reply}
-use Rattle.world_spec.specs.declared.Reply.TheVariants as Reply
 use Rattle.world_spec.specs.declared.Why.TheVariants as Why
 use Rattle.world_spec.specs.declared.Entry.{Entry}
 use Rattle.record_spec.specs.declared.AskedLine.{AskedLine}
 use Rattle.record_spec.specs.declared.AskedWhat.{AskedWhat}
-use Rattle.record_spec.specs.declared.AskedWhat.TheVariants as AskedWhat
 use Rattle.record_spec.specs.declared.RunRecord.{RunRecord}
 use Rattle.legal_spec.specs.Legal.{IsLegal}
 
@@ -132,25 +128,19 @@ abbrev pub wrong_reply : RunRecord
 wrong_reply = record_of [] (entered 0 1 0 TaskCall.Take Reply.Ok ∷ []) []
 
 -- the first task lists the root with these checks
-abbrev pub listing : List Verdict → Entry
-listing checks = record {
+abbrev pub listed_with : List Verdict → RunRecord
+listed_with checks = record_of [] (record {
   task = 0;
   seq = 1;
   call = Call.Tree (TreeCall.ListDir [] 0);
   version = 0;
   checks = checks;
   reply = Reply.Names 0 [];
-}
-
-abbrev pub listed_with : List Verdict → RunRecord
-listed_with checks = record_of [] (listing checks ∷ []) []
+} ∷ []) []
 
 -- an object call with another check than its step makes, which is case 3, and one without it
-abbrev pub by_same_label : Verdict
-by_same_label = record { allowed = true; case = 5; over = 0; subject = floor; object = floor; modes = read }
-
 abbrev pub wrong_check : RunRecord
-wrong_check = listed_with (by_same_label ∷ [])
+wrong_check = listed_with (record { allowed = true; case = 5; over = 0; subject = floor; object = floor; modes = read } ∷ [])
 
 abbrev pub missing_check : RunRecord
 missing_check = listed_with []

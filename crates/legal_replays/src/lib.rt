@@ -7,18 +7,11 @@
 ghost use Rattle.legal_replays.specs.Interleaved.{OtherOrder};
 ghost use Rattle.legal_replays.specs.RefusedRecords.{RefusedRecords};
 ghost use Rattle.legal_replays.specs.UnfitRecords.{UnfitRecords};
-ghost use Rattle.legal_spec.specs.Laws.{ReplayedIsLegal, StepsAreJudged};
+ghost use Rattle.legal_spec.specs.Laws.{ReplayedIsLegal};
 
 /// The law: the record of a script that is replayed is legal for the script.
 pub fn replayed_records_are_legal()
     ensures { ReplayedIsLegal }
-{}
-
-/// Object calls that are steps of one world, in versions that never fall, are judged as a legal
-/// record asks; and where each check is shown as it was judged, only such calls are.
-#[tactic(auto, using(crate::proofs::Steps::steps_are_judged))]
-pub fn steps_are_judged()
-    ensures { StepsAreJudged }
 {}
 
 /// Records that are not legal.

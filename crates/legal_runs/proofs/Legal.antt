@@ -28,7 +28,7 @@ use Rattle.legal_spec.specs.Calls.{Stands, IsNumberOf, IsCall, batch, entry, ask
 use Rattle.legal_spec.specs.Legal.{IsEachCallOnce, AreJudged, ArePrivileged, IsRefused, IsSo, AreAnswered, HasWaited, IsFresh, IsLegal}
 use Rattle.legal_spec.specs.Lines.{IsAskedOfLine}
 use Rattle.legal_replays.proofs.TextRefusals.{rules_of_file}
-use Rattle.legal_replays.proofs.Steps.{are_judged as entries_are_judged}
+use Rattle.legal_forms_laws.proofs.Steps.{are_judged as entries_are_judged}
 use Rattle.live_table.specs.Lists.{Has, here, there}
 use Rattle.live_table.specs.Batches.{task_of}
 use Rattle.live_table.specs.Machines.{made}

@@ -1,4 +1,4 @@
-use Rattle.std.proofs.Common.{◌≡◌, ◌≤◌, ◌<◌, ℕ, zero, suc, List, [], ◌∷◌, length, take, fold, refl, sym, ap, subst, arith}
+use Rattle.std.proofs.Common.{◌≡◌, ◌≤◌, ◌<◌, ℕ, zero, suc, List, [], ◌∷◌, take, fold, refl, subst, arith}
 use Rattle.rules_spec.specs.declared.Batch.{Batch}
 use Rattle.rules_spec.specs.declared.Verdict.{Verdict}
 use Rattle.world_spec.specs.declared.Entry.{Entry}
@@ -9,7 +9,7 @@ use Rattle.legal_spec.specs.Calls.{Stands}
 use Rattle.legal_spec.specs.Entries.{ShowsAs, AreShownAs, AreEntries}
 use Rattle.legal_spec.specs.Legal.{AreJudged}
 use Rattle.legal_spec.specs.Laws.{AreRisingSteps, StepsAreJudged}
-use Rattle.legal_replays.proofs.Places.{same_some}
+use Rattle.legal_forms_laws.proofs.Members.{same_some}
 
 -- what is shown as it is
 pub shown_as_is : (shows : Verdict → Verdict → Type 0) → ((v : Verdict) → shows v v) → (vs ws : List Verdict) → vs ≡ ws → AreShownAs shows vs ws
