@@ -25,11 +25,12 @@ at task journal version = record task { journal = journal; version = version }
 -- How many rows a task loads at most where memory is found.
 pub record WorkedLoads : Type 0 where
   -- three texts of two lines each: two rows for the lines of each, and one for its head
-  pub texts : (child : TaskValue) (s o : LabelId) (before after : ℕ)
-      → LoadsOnce (at child [] 0) (at child (three_texts s o) 3) before after → after ≤ before + 9
+  pub texts : (child : TaskValue) (s o : LabelId) (after : ℕ)
+      → LoadsOnce (at child [] 0) (record (at child (three_texts s o) 3) { loads = after }) → after ≤ child.loads + 9
   -- nothing new
-  pub again : (child : TaskValue) (s o : LabelId) (before after : ℕ)
-      → LoadsOnce (at child (three_texts s o) 3) (at child (three_texts s o) 3) before after → after ≤ before
+  pub again : (child : TaskValue) (s o : LabelId) (after : ℕ)
+      → LoadsOnce (at child (three_texts s o) 3) (record (at child (three_texts s o) 3) { loads = after }) → after ≤ child.loads
   -- an empty batch
-  pub empty : (child : TaskValue) (s o : LabelId) (before after : ℕ)
-      → LoadsOnce (at child (three_texts s o) 3) (at child (three_texts s o ++ published 5 [] ∷ []) 4) before after → after ≤ before + 1
+  pub empty : (child : TaskValue) (s o : LabelId) (after : ℕ)
+      → LoadsOnce (at child (three_texts s o) 3) (record (at child (three_texts s o ++ published 5 [] ∷ []) 4) { loads = after })
+      → after ≤ child.loads + 1

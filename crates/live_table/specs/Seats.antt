@@ -69,6 +69,12 @@ pub record AreWhole (filled : List ℕ) (number : ℕ) : Type 0 where
   pub own : (b : Batch) → Has b batches → b.task ≡ number
   pub packed : ArePacked batches
 
+-- it has loaded no row since, nor looked, nor taken the pen
+pub record SameCounts {E : Type 0} (v w : View E) : Type 0 where
+  pub loads : w.loads ≡ v.loads
+  pub looks : w.looks ≡ v.looks
+  pub pens : w.pens ≡ v.pens
+
 -- The view v after looks at the rows, and loads of rows: the seen journal is longer or the same, and the seat's numbers
 -- have no more batches in it. The pen, how often it was taken, and the turn are as before.
 pub record Sees {E : Type 0} (v w : View E) : Type 0 where
@@ -86,9 +92,7 @@ module _ {S E : Type 0} (m : Means S E) where
     pub turn : x.turn ≡ v.turn
     pub noticed : x.noticed ≡ v.noticed
     pub known : x.known ≡ max v.known w.known
-    pub loads : x.loads ≡ v.loads
-    pub looks : x.looks ≡ v.looks
-    pub pens : x.pens ≡ v.pens
+    pub counts : SameCounts v x
     pub journal : Begins x.journal v.journal
     pub history : Begins x.history v.history
     pub told_journal : Begins x.journal w.journal

@@ -12,31 +12,27 @@ use rule_word::{unpack, unpack_head};
 use rules_spec::Batch;
 use smack_base::RuleOps;
 use std::alloc::{AllocError, Global};
-use std::sync::ledger::Ledger;
-use step_count::Steps;
 
 impl<M: Machine> LiveTable<M> {
-    /// So many writes, from this row on; one step for each.
-    fn ops_at<L: Ledger>(
+    /// So many writes, from this row on; one load for each.
+    fn ops_at(
         &self,
         alloc: Global,
         seat: &mut TaskSeat<M>,
         at: u32,
         len: u16,
-        steps: &mut Steps<L>,
     ) -> Result<RuleOps, AllocError>
         requires table { seat.old.table ≡ self.now }
         requires room { at + len ≤ row_count }
         requires ops { (ops : List RuleOp) × OpsAt (words_of seat.old.view.journal) at ops × (len ≡ length ops) }
         ensures same { seat.new ≡ with_loads seat.new.view.loads seat.old }
         ensures ops { (ops : List RuleOp) → OpsAt (words_of seat.old.view.journal) at ops → len ≡ length ops → IfOk result (λ r. r ≡ ops) }
-        ensures cost { steps.new ≤ steps.old + len }
         ensures few { (seat.old.view.loads ≤ seat.new.view.loads) × (seat.new.view.loads ≤ seat.old.view.loads + len) }
         ensures loaded { OnOk result (seat.new.view.loads ≡ seat.old.view.loads + len) }
     {
         let mut ops = RuleOps::new(alloc);
         for i in 0..u32::from(len) {
-            let op = match unpack(self.row(seat, at + i, steps)) {
+            let op = match unpack(self.row(seat, at + i)) {
                 Some(op) => op,
                 None => unreachable!(),
             };
@@ -45,15 +41,14 @@ impl<M: Machine> LiveTable<M> {
         Ok(ops)
     }
 
-    /// The batch whose head stands in this row, with one load and one step for each of its rows; `None`
-    /// where the row is the end of those that the seat has seen. Want of memory comes only where there
-    /// is a batch, and then not all of its rows may have been loaded.
-    pub fn batch<L: Ledger>(
+    /// The batch whose head stands in this row, with one load for each of its rows; `None` where the
+    /// row is the end of those that the seat has seen. Want of memory comes only where there is a
+    /// batch, and then not all of its rows may have been loaded.
+    pub fn batch(
         &self,
         alloc: Global,
         seat: &mut TaskSeat<M>,
         at: u32,
-        steps: &mut Steps<L>,
     ) -> Result<Option<Batch>, AllocError>
         requires table { seat.old.table ≡ self.now }
         requires cut { (front : List Batch) × (rest : List Batch) × Cut seat.old.view.journal front rest at }
@@ -61,7 +56,6 @@ impl<M: Machine> LiveTable<M> {
         ensures batch { (front rest : List Batch) → Cut seat.old.view.journal front rest at → IfOk result (λ b. b ≡ first_of rest) }
         ensures some { OnErr result (at < rows_of seat.old.view.journal) }
         ensures room { IfOk result (λ b. IfSome b (λ batch. at + 1 + length batch.ops ≤ row_count)) }
-        ensures cost { (front rest : List Batch) → Cut seat.old.view.journal front rest at → steps.new ≤ steps.old + first_rows rest }
         ensures few { (front rest : List Batch) → Cut seat.old.view.journal front rest at
             → (seat.old.view.loads ≤ seat.new.view.loads) × (seat.new.view.loads ≤ seat.old.view.loads + first_rows rest) }
         ensures loaded { (front rest : List Batch) → Cut seat.old.view.journal front rest at
@@ -70,11 +64,11 @@ impl<M: Machine> LiveTable<M> {
         if at >= seat.rows_seen() {
             return Ok(None);
         }
-        let head = match unpack_head(self.row(seat, at, steps)) {
+        let head = match unpack_head(self.row(seat, at)) {
             Some(head) => head,
             None => unreachable!(),
         };
-        let ops = self.ops_at(alloc, seat, at + 1, head.len, steps)?;
+        let ops = self.ops_at(alloc, seat, at + 1, head.len)?;
         Ok(Some(Batch {
             task: head.task,
             seq: head.seq,

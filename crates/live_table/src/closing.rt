@@ -6,53 +6,21 @@ use crate::seat::TaskSeat;
 use crate::table::{LiveTable, SLOT};
 use rules_spec::Journal;
 use std::alloc::{AllocError, Global};
-use std::marker::Brand;
-use std::sync::ledger::{Blank, Ledger};
-use step_count::Steps;
 
 impl<M: Machine> LiveTable<M> {
     /// The journal that the seat has seen, read from the rows.
-    fn read_journal<L: Ledger>(
-        &self,
-        alloc: Global,
-        seat: &mut TaskSeat<M>,
-        steps: &mut Steps<L>,
-    ) -> Result<Journal, AllocError>
+    fn read_journal(&self, alloc: Global, seat: &mut TaskSeat<M>) -> Result<Journal, AllocError>
         requires { seat.old.table ≡ self.now }
         ensures same { seat.new ≡ with_loads seat.new.view.loads seat.old }
         ensures journal { IfOk result (λ journal. journal ≡ seat.old.view.journal) }
     {
         let mut journal = Journal::new(alloc);
         let mut at = 0;
-        while let Some(batch) = self.batch(alloc, seat, at, steps)? {
+        while let Some(batch) = self.batch(alloc, seat, at)? {
             at += 1 + batch.ops.items().len() as u32;
             journal.push(batch)?;
         }
         Ok(journal)
-    }
-
-    fn read_journal_by<L: Ledger>(
-        &self,
-        alloc: Global,
-        seat: &mut TaskSeat<M>,
-        blank: Blank,
-    ) -> Result<Journal, AllocError>
-        requires blank { (blank.name ≡ L.name) × (blank.parts ≡ L.parts) × (0 < L.parts) }
-        requires table { seat.old.table ≡ self.now }
-        ensures same { seat.new ≡ with_loads seat.new.view.loads seat.old }
-        ensures journal { IfOk result (λ journal. journal ≡ seat.old.view.journal) }
-    {
-        let mut steps = Steps::<L>::new(blank);
-        self.read_journal(alloc, seat, &mut steps)
-    }
-
-    /// The same, where nobody counts the steps.
-    fn seen_journal(&self, alloc: Global, seat: &mut TaskSeat<M>) -> Result<Journal, AllocError>
-        requires { seat.old.table ≡ self.now }
-        ensures same { seat.new ≡ with_loads seat.new.view.loads seat.old }
-        ensures journal { IfOk result (λ journal. journal ≡ seat.old.view.journal) }
-    {
-        self.read_journal_by::<Brand>(alloc, seat, Blank::new(1))
     }
 
     /// Ends the table: the journal that the seat has seen, and the value of the machine. The seat is
@@ -70,7 +38,7 @@ impl<M: Machine> LiveTable<M> {
         ensures back { IfErr result (λ e. (e.1 ≡ self) × (e.2 ≡ with_loads e.2.view.loads seat)) }
     {
         let mut seat = seat;
-        let journal = match self.seen_journal(alloc, &mut seat) {
+        let journal = match self.read_journal(alloc, &mut seat) {
             Ok(journal) => journal,
             Err(fault) => return Err((fault, self, seat)),
         };

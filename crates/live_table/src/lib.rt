@@ -30,6 +30,5 @@ pub use law::Law;
 pub use machine::Machine;
 pub use rules_spec::{Batch, Journal};
 pub use seat::{Notice, TaskSeat};
-pub use step_count::Steps;
 pub use table::{LiveTable, ROW_COUNT};
 pub use view::View;

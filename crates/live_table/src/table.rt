@@ -11,8 +11,6 @@ use crate::view::View;
 use atomic_table::Table;
 use std::alloc::{AllocError, Global};
 use std::marker::Model;
-use std::sync::ledger::Ledger;
-use step_count::Steps;
 
 /// How many rows a table has.
 pub const ROW_COUNT: u32 = 1_048_576;
@@ -99,15 +97,13 @@ impl<M: Machine> LiveTable<M> {
         seat.rows
     }
 
-    /// The word of a row that the seat has seen: one row more that it has loaded, and one step.
-    pub fn row<L: Ledger>(&self, seat: &mut TaskSeat<M>, at: u32, steps: &mut Steps<L>) -> u64
+    /// The word of a row that the seat has seen: one row more that it has loaded.
+    pub fn row(&self, seat: &mut TaskSeat<M>, at: u32) -> u64
         requires table { seat.old.table ≡ self.now }
         requires seen { at < rows_of seat.old.view.journal }
         ensures loaded { seat.new ≡ with_loads (seat.old.view.loads + 1) seat.old }
         ensures word { result ≡ slice_index (words_of seat.old.view.journal) at }
-        ensures cost { steps.new ≡ steps.old + 1 }
     {
-        steps.tick();
         self.table
             .shared
             .load::<Read>(&mut seat.seat, at as usize + FIRST_ROW)

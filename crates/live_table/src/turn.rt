@@ -1,6 +1,6 @@
 ghost use Rattle.std.specs.Prelude.{◌≡◌, ◌+◌, ◌++◌, List, true, false, IfSome, IfNone};
 ghost use Rattle.live_table.specs.Plays.{given as given_with, MayGive};
-ghost use Rattle.live_table.specs.Seats.{Rests, Turns};
+ghost use Rattle.live_table.specs.Seats.{Rests, Turns, SameCounts};
 
 use crate::machine::Machine;
 use crate::plays::{Give, See, Take};
@@ -15,7 +15,8 @@ impl<M: Machine> LiveTable<M> {
         requires rests { Rests seat.old.view }
         ensures turn { IfSome result (λ value. (seat.new.table ≡ seat.old.table) × (seat.new.number ≡ seat.old.number)
             × Turns M.means seat.old.view seat.new.view value
-            × (seat.new.view.loads ≡ seat.old.view.loads) × (seat.new.view.looks ≡ seat.old.view.looks + 1)) }
+            × (seat.new.view.loads ≡ seat.old.view.loads) × (seat.new.view.looks ≡ seat.old.view.looks + 1)
+            × (seat.new.view.pens ≡ seat.old.view.pens)) }
         ensures none { IfNone result (seat.new ≡ seat.old) }
     {
         let found = self
@@ -38,7 +39,8 @@ impl<M: Machine> LiveTable<M> {
         requires rests { Rests seat.old.view }
         ensures same { (seat.new.table ≡ seat.old.table) × (seat.new.number ≡ seat.old.number) }
         ensures turn { Turns M.means seat.old.view seat.new.view result }
-        ensures counted { (seat.new.view.loads ≡ seat.old.view.loads) × (seat.new.view.looks ≡ seat.old.view.looks + 1) }
+        ensures counted { (seat.new.view.loads ≡ seat.old.view.loads) × (seat.new.view.looks ≡ seat.old.view.looks + 1)
+            × (seat.new.view.pens ≡ seat.old.view.pens) }
     {
         for _ in rt.forever() {
             if let Some(value) = self.try_turn(seat) {
@@ -57,6 +59,8 @@ impl<M: Machine> LiveTable<M> {
         ensures same { (seat.new.table ≡ seat.old.table) × (seat.new.number ≡ seat.old.number) }
         ensures given { (es : List M.Entry) → M.means.history value ≡ seat.old.view.history ++ es
             → seat.new.view ≡ given_with seat.old.view es }
+        ensures seen { seat.new.view.journal ≡ seat.old.view.journal }
+        ensures counted { SameCounts seat.old.view seat.new.view }
     {
         drop(
             self.table

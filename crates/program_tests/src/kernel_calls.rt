@@ -4,13 +4,11 @@ ghost use Rattle.smack_kernel.specs.Answers.{IsForked};
 use label_table::Labels;
 use rules_spec::READ;
 use smack_base::{Label, LabelId, Modes, Pid};
-use smack_kernel::{Asked, Called, Kernel, Refusal, Steps, Task, Written};
+use smack_kernel::{Asked, Called, Kernel, Refusal, Task, Written};
 use smack_world::{Call, Reply, TaskCall, Why};
 use std::alloc::AllocError;
-use std::marker::Brand;
 use std::process::Abort;
 use std::sync::Wait;
-use std::sync::ledger::{Blank, Ledger};
 use std::test::Fail;
 
 /// The predefined labels, and `A`, `B` and `Admin`, which have the numbers 5 to 7.
@@ -34,41 +32,11 @@ pub fn booted(rt: &(impl Abort + AllocGlobal)) -> Result<(Kernel, Task), Fail>
     Ok(booted)
 }
 
-fn catch_up_by<R: AllocGlobal, L: Ledger>(
-    rt: &R,
-    kernel: &Kernel,
-    task: &mut Task,
-    blank: Blank,
-) -> Result<(), AllocError>
-    requires blank { (blank.name ≡ L.name) × (blank.parts ≡ L.parts) × (0 < L.parts) }
-    requires table { task.old.table ≡ kernel.now.table }
-    ensures { task.new.table ≡ task.old.table }
-{
-    let mut steps = Steps::<L>::new(blank);
-    kernel.catch_up(rt.alloc(), task, &mut steps)
-}
-
 fn catch_up<R: AllocGlobal>(rt: &R, kernel: &Kernel, task: &mut Task) -> Result<(), AllocError>
     requires { task.old.table ≡ kernel.now.table }
     ensures { task.new.table ≡ task.old.table }
 {
-    catch_up_by::<R, Brand>(rt, kernel, task, Blank::new(1))
-}
-
-fn ask_by<R: AllocGlobal, L: Ledger>(
-    rt: &R,
-    kernel: &Kernel,
-    task: &mut Task,
-    question: (LabelId, LabelId, Modes),
-    blank: Blank,
-) -> Result<Asked, AllocError>
-    requires blank { (blank.name ≡ L.name) × (blank.parts ≡ L.parts) × (0 < L.parts) }
-    requires table { task.old.table ≡ kernel.now.table }
-    ensures { task.new.table ≡ task.old.table }
-{
-    let (s, o, m) = question;
-    let mut steps = Steps::<L>::new(blank);
-    kernel.ask(rt.alloc(), task, s, o, m, &mut steps)
+    kernel.catch_up(rt.alloc(), task)
 }
 
 /// Asks if `A` may read `B`.
@@ -76,24 +44,7 @@ pub fn ask<R: AllocGlobal>(rt: &R, kernel: &Kernel, task: &mut Task) -> Result<A
     requires { task.old.table ≡ kernel.now.table }
     ensures { task.new.table ≡ task.old.table }
 {
-    let question = (LabelId(5), LabelId(6), READ);
-    ask_by::<R, Brand>(rt, kernel, task, question, Blank::new(1))
-}
-
-fn write_by<R: Wait + AllocGlobal, L: Ledger>(
-    rt: &R,
-    kernel: &Kernel,
-    task: &mut Task,
-    file: &[u8],
-    text: &[u8],
-    blank: Blank,
-) -> Result<Written, AllocError>
-    requires blank { (blank.name ≡ L.name) × (blank.parts ≡ L.parts) × (0 < L.parts) }
-    requires table { task.old.table ≡ kernel.now.table }
-    ensures { task.new.table ≡ task.old.table }
-{
-    let mut steps = Steps::<L>::new(blank);
-    kernel.write(rt, rt.alloc(), task, file, text, &mut steps)
+    kernel.ask(rt.alloc(), task, LabelId(5), LabelId(6), READ)
 }
 
 /// A task writes a text to a file, at a kernel.
@@ -107,25 +58,7 @@ pub fn write<R: Wait + AllocGlobal>(
     requires { task.old.table ≡ kernel.now.table }
     ensures { task.new.table ≡ task.old.table }
 {
-    write_by::<R, Brand>(rt, kernel, task, file, text, Blank::new(1))
-}
-
-fn take_by<R: Wait + AllocGlobal, L: Ledger>(
-    rt: &R,
-    kernel: &Kernel,
-    task: &mut Task,
-    blank: Blank,
-) -> Result<Called, AllocError>
-    requires blank { (blank.name ≡ L.name) × (blank.parts ≡ L.parts) × (0 < L.parts) }
-    requires table { task.old.table ≡ kernel.now.table }
-    ensures { task.new.table ≡ task.old.table }
-{
-    let mut steps = Steps::<L>::new(blank);
-    let call = Call::Task(TaskCall::Take);
-    match kernel.call(rt, rt.alloc(), task, call, &mut steps) {
-        Ok(called) => Ok(called),
-        Err(_) => Err(AllocError),
-    }
+    kernel.write(rt, rt.alloc(), task, file, text)
 }
 
 /// Makes the call `Take`, which finds no signal.
@@ -137,23 +70,11 @@ pub fn take<R: Wait + AllocGlobal>(
     requires { task.old.table ≡ kernel.now.table }
     ensures { task.new.table ≡ task.old.table }
 {
-    take_by::<R, Brand>(rt, kernel, task, Blank::new(1))
-}
-
-fn fork_by<R: Wait + AllocGlobal, L: Ledger>(
-    rt: &R,
-    kernel: &Kernel,
-    task: &mut Task,
-    pid: Pid,
-    blank: Blank,
-) -> Result<(Called, Option<Task>), AllocError>
-    requires blank { (blank.name ≡ L.name) × (blank.parts ≡ L.parts) × (0 < L.parts) }
-    requires table { task.old.table ≡ kernel.now.table }
-    ensures same { task.new.table ≡ task.old.table }
-    ensures forked { IfOk result (λ r. IsForked task.old task.new pid r.0 r.1) }
-{
-    let mut steps = Steps::<L>::new(blank);
-    kernel.fork(rt, rt.alloc(), task, pid, &mut steps)
+    let call = Call::Task(TaskCall::Take);
+    match kernel.call(rt, rt.alloc(), task, call) {
+        Ok(called) => Ok(called),
+        Err(_) => Err(AllocError),
+    }
 }
 
 /// Makes the call `Fork`.
@@ -167,7 +88,7 @@ pub fn fork<R: Wait + AllocGlobal>(
     ensures same { task.new.table ≡ task.old.table }
     ensures forked { IfOk result (λ r. IsForked task.old task.new pid r.0 r.1) }
 {
-    fork_by::<R, Brand>(rt, kernel, task, pid, Blank::new(1))
+    kernel.fork(rt, rt.alloc(), task, pid)
 }
 
 /// The child of a fork that the task makes.

@@ -16,13 +16,11 @@ use script_acts::Act;
 use script_calls::words_of;
 use script_text::Line;
 use smack_base::{Bytes, LabelId, Modes};
-use smack_kernel::{Asked, Called, Steps, Task, Written};
+use smack_kernel::{Asked, Called, Task, Written};
 use smack_world::Call;
 use smackfs::Refusal;
 use std::alloc::Global;
-use std::marker::Brand;
 use std::sync::Wait;
-use std::sync::ledger::{Blank, Ledger};
 
 /// Why a worker stopped before its last line.
 #[derive(Clone, Copy, Debug, PartialEq, Eq)]
@@ -52,14 +50,13 @@ pub fn note(asked: &mut AskedBlocks, line: AskedLine) -> Option<Stop>
 }
 
 /// Asks a question.
-fn ask_line<S: ScriptLines, L: Ledger>(
+fn ask_line<S: ScriptLines>(
     alloc: Global,
     stage: Stage<'_, S>,
     task: &mut Task,
     asked: &mut AskedBlocks,
     line: &Line<'_>,
     question: (LabelId, LabelId, Modes),
-    steps: &mut Steps<L>,
 ) -> Option<Stop>
     requires table { task.old.table ≡ stage.kernel.now.table }
     requires top { task.old.version ≤ length task.old.journal }
@@ -70,7 +67,7 @@ fn ask_line<S: ScriptLines, L: Ledger>(
     let (s, o, m) = question;
     let number = task.number();
     let seq = task.made() + 1;
-    match stage.kernel.ask(alloc, task, s, o, m, steps) {
+    match stage.kernel.ask(alloc, task, s, o, m) {
         Ok(Asked::Verdict { version, verdict }) => note(
             asked,
             AskedLine {
@@ -112,14 +109,13 @@ fn refuse(
 }
 
 /// Writes the text of a line.
-fn write_line<R: Wait, S: ScriptLines, L: Ledger>(
+fn write_line<R: Wait, S: ScriptLines>(
     rt: &R,
     alloc: Global,
     stage: Stage<'_, S>,
     task: &mut Task,
     asked: &mut AskedBlocks,
     line: &Line<'_>,
-    steps: &mut Steps<L>,
 ) -> Option<Stop>
     requires table { task.old.table ≡ stage.kernel.now.table }
     requires top { task.old.version ≤ length task.old.journal }
@@ -130,10 +126,7 @@ fn write_line<R: Wait, S: ScriptLines, L: Ledger>(
     let number = task.number();
     let seq = task.made() + 1;
     let file = words_of(line).one;
-    match stage
-        .kernel
-        .write(rt, alloc, task, file, line.text.bytes, steps)
-    {
+    match stage.kernel.write(rt, alloc, task, file, line.text.bytes) {
         Ok(Written::Batch { version: _ }) => None,
         Ok(Written::Entry(_)) => None,
         Ok(Written::Refused { version, fault }) => {
@@ -146,7 +139,7 @@ fn write_line<R: Wait, S: ScriptLines, L: Ledger>(
 }
 
 /// Makes an object call that is no fork.
-fn make_line<R: Wait, S: ScriptLines, L: Ledger>(
+fn make_line<R: Wait, S: ScriptLines>(
     rt: &R,
     alloc: Global,
     stage: Stage<'_, S>,
@@ -154,7 +147,6 @@ fn make_line<R: Wait, S: ScriptLines, L: Ledger>(
     asked: &mut AskedBlocks,
     line: &Line<'_>,
     call: Call,
-    steps: &mut Steps<L>,
 ) -> Option<Stop>
     requires table { task.old.table ≡ stage.kernel.now.table }
     requires top { task.old.version ≤ length task.old.journal }
@@ -162,7 +154,7 @@ fn make_line<R: Wait, S: ScriptLines, L: Ledger>(
     ensures ran { (ls : List ScriptLine) → Ran (is_some result) (script_of S.told stage.entry) (call_seen line.now ∷ ls) ls task.old task.new asked.old asked.new }
     ensures cause { (ls : List ScriptLine) → IfSome result (IsCause (script_of S.told stage.entry) (call_seen line.now ∷ ls) task.old task.new) }
 {
-    match stage.kernel.call(rt, alloc, task, call, steps) {
+    match stage.kernel.call(rt, alloc, task, call) {
         Ok(Called::Entry(_)) => None,
         Ok(Called::TrailFull(_)) => Some(Stop::TrailFull),
         Ok(Called::SeqFull(_)) => Some(Stop::SeqFull),
@@ -171,35 +163,6 @@ fn make_line<R: Wait, S: ScriptLines, L: Ledger>(
 }
 
 /// Runs a line that neither makes a task nor waits for one.
-fn line_by<R: Wait, S: ScriptLines, L: Ledger>(
-    rt: &R,
-    alloc: Global,
-    stage: Stage<'_, S>,
-    task: &mut Task,
-    asked: &mut AskedBlocks,
-    line: &Line<'_>,
-    act: Act,
-    blank: Blank,
-) -> Option<Stop>
-    requires blank { (blank.name ≡ L.name) × (blank.parts ≡ L.parts) × (0 < L.parts) }
-    requires table { task.old.table ≡ stage.kernel.now.table }
-    requires top { task.old.version ≤ length task.old.journal }
-    requires act { IsAct stage.kernel.now.labels stage.names.now (call_seen line.now) act }
-    requires plain { (pid : Pid) → act ≡ Act.Fork pid → ⊥ }
-    ensures ran { (ls : List ScriptLine) → Ran (is_some result) (script_of S.told stage.entry) (call_seen line.now ∷ ls) ls task.old task.new asked.old asked.new }
-    ensures cause { (ls : List ScriptLine) → IfSome result (IsCause (script_of S.told stage.entry) (call_seen line.now ∷ ls) task.old task.new) }
-{
-    let mut steps = Steps::<L>::new(blank);
-    match act {
-        Act::Write => write_line(rt, alloc, stage, task, asked, line, &mut steps),
-        Act::Ask { s, o, m } => ask_line(alloc, stage, task, asked, line, (s, o, m), &mut steps),
-        Act::Make(call) => make_line(rt, alloc, stage, task, asked, line, call, &mut steps),
-        Act::Wait(_) => Some(Stop::Unscripted),
-        Act::Fork(_) => Some(Stop::Unscripted),
-    }
-}
-
-/// The same, where nobody counts the rows that are loaded.
 pub fn plain_line<R: Wait, S: ScriptLines>(
     rt: &R,
     alloc: Global,
@@ -216,5 +179,11 @@ pub fn plain_line<R: Wait, S: ScriptLines>(
     ensures ran { (ls : List ScriptLine) → Ran (is_some result) (script_of S.told stage.entry) (call_seen line.now ∷ ls) ls task.old task.new asked.old asked.new }
     ensures cause { (ls : List ScriptLine) → IfSome result (IsCause (script_of S.told stage.entry) (call_seen line.now ∷ ls) task.old task.new) }
 {
-    line_by::<R, S, Brand>(rt, alloc, stage, task, asked, line, act, Blank::new(1))
+    match act {
+        Act::Write => write_line(rt, alloc, stage, task, asked, line),
+        Act::Ask { s, o, m } => ask_line(alloc, stage, task, asked, line, (s, o, m)),
+        Act::Make(call) => make_line(rt, alloc, stage, task, asked, line, call),
+        Act::Wait(_) => Some(Stop::Unscripted),
+        Act::Fork(_) => Some(Stop::Unscripted),
+    }
 }

@@ -21,11 +21,9 @@ use script_acts::{Act, act_of};
 use script_calls::names_of;
 use script_text::{Line, Script};
 use smack_base::{Bytes, Pid};
-use smack_kernel::{Called, Kernel, Steps, Task};
+use smack_kernel::{Called, Kernel, Task};
 use std::alloc::Global;
-use std::marker::Brand;
 use std::sync::Wait;
-use std::sync::ledger::{Blank, Ledger};
 use std::thread::{Threads, join};
 
 /// What a worker hands back: its task, the asked, refused and waited lines of this task and of those
@@ -56,31 +54,6 @@ fn why_no_child(called: &Called) -> Stop
 }
 
 /// The child of a fork; or why there is none.
-fn fork_by<R: Wait, L: Ledger>(
-    rt: &R,
-    alloc: Global,
-    kernel: &Kernel,
-    task: &mut Task,
-    child: Pid,
-    blank: Blank,
-) -> Result<Task, Stop>
-    requires blank { (blank.name ≡ L.name) × (blank.parts ≡ L.parts) × (0 < L.parts) }
-    requires table { task.old.table ≡ kernel.now.table }
-    requires top { task.old.version ≤ length task.old.journal }
-    ensures forked { IsForked task.old task.new child result }
-    ensures cause { IsForkCause task.old task.new result }
-{
-    let mut steps = Steps::<L>::new(blank);
-    let Ok((called, kid)) = kernel.fork(rt, alloc, task, child, &mut steps) else {
-        return Err(Stop::Memory);
-    };
-    match kid {
-        Some(kid) => Ok(kid),
-        None => Err(why_no_child(&called)),
-    }
-}
-
-/// The same, where nobody counts the rows that are loaded.
 fn fork<R: Wait>(
     rt: &R,
     alloc: Global,
@@ -93,7 +66,13 @@ fn fork<R: Wait>(
     ensures forked { IsForked task.old task.new child result }
     ensures cause { IsForkCause task.old task.new result }
 {
-    fork_by::<R, Brand>(rt, alloc, kernel, task, child, Blank::new(1))
+    let Ok((called, kid)) = kernel.fork(rt, alloc, task, child) else {
+        return Err(Stop::Memory);
+    };
+    match kid {
+        Some(kid) => Ok(kid),
+        None => Err(why_no_child(&called)),
+    }
 }
 
 /// The asked lines of both halves of a fork, put together; or what stopped a half, or that memory for

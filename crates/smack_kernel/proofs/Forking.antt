@@ -77,6 +77,10 @@ drew_all v v1 note c0 c1 d w n n2 number turn quiet e1 en is ec nob noe low e2 e
           ∙ (sym (ap (λ (y : View Entry). entries_by world_means number y.history) en) ∙ noe);
       child_batches = ap (λ (y : View Entry). batches_by number y.journal) c1v
           ∙ (sym (ap (λ (y : View Entry). batches_by number y.journal) en) ∙ nob);
+      counts = record { loads = h.counts.loads; looks = h.counts.looks; pens = h.counts.pens };
+      child_loads = ap (λ (y : View Entry). y.loads) c1v;
+      child_looks = ap (λ (y : View Entry). y.looks) c1v;
+      child_pens = ap (λ (y : View Entry). y.pens) c1v;
     }
 
 -- the turn may be given back with the entry of a fork, after a child was drawn
@@ -132,6 +136,9 @@ forks_all v u c u1 u2 note c2 number n e d e1 e2 en h =
       child_rests = (h.pen ∙ d.child_rests.0, h.turn ∙ d.child_rests.1);
       child_entries = h.entries number theirs ∙ d.child_entries;
       child_batches = h.batches number theirs ∙ d.child_batches;
+      child_loads = h.counts.loads ∙ d.child_loads;
+      child_looks = h.counts.looks ∙ d.child_looks;
+      child_pens = h.counts.pens ∙ d.child_pens;
     }
 
 stepped_child : (w : World) (task : ℕ) (e : Effect) (checks : List Verdict) (stop : Option Reply) → Stops stop
@@ -297,6 +304,9 @@ module _ {s : SeatValue Entry} {w : View Entry} {rules : IndexValue} {rows : ℕ
       batches = f.child_batches;
       entries = f.child_entries;
       within = stands_within child_task.stands;
+      loads = f.child_loads;
+      looks = f.child_looks;
+      pens = f.child_pens;
     }
 
     pub child_named : child_of r.reply ≡ Some c.number
@@ -324,6 +334,9 @@ counted_starts w c n s = record {
   batches = s.batches;
   entries = s.entries;
   within = s.within;
+  loads = s.loads;
+  looks = s.looks;
+  pens = s.pens;
 }
 
 -- what a fork comes to, once it is counted

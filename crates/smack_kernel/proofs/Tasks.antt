@@ -1,5 +1,5 @@
 use Rattle.std.proofs.Common.{◌≡◌, ◌⊎◌, inl, inr, ℕ, ◌+◌, ◌<◌, ◌≤◌, true, false, if◌then◌else◌, List, [], ◌∷◌, ◌++◌, ⊎_elim, sym, refl, ap, ◌∙◌, subst, append-nil, arith}
-use Rattle.std.specs.Prelude.{Result, Ok, Err, OnErr, nat_lt}
+use Rattle.std.specs.Prelude.{Result, Ok, Err, OnOk, OnErr, nat_lt}
 use Rattle.std.proofs.lemmas.Bool.Decides.{nat_tests}
 use Rattle.atomic_table.specs.Seated.{TableId}
 use Rattle.rules_spec.specs.declared.Batch.{Batch}
@@ -151,6 +151,7 @@ module _ {s s' : SeatValue Entry} {rules : IndexValue} {rows : ℕ} {creds : Cre
           creds = refl;
         };
         version = refl;
+        counts = record { loads = hears.counts.loads; looks = hears.counts.looks; pens = hears.counts.pens };
         told_journal = subst (λ z. Begins s'.view.journal z) (sym journal) hears.told_journal;
         told_history = subst (λ z. Begins s'.view.history z) (sym history) hears.told_history;
       }
@@ -211,6 +212,7 @@ adopts_does {s} {c} {s'} made made_c t d same hears stands later told_later grea
       version = later;
       told_version = told_later;
       greater = greater;
+      counts = record { loads = hears.counts.loads; looks = hears.counts.looks; pens = hears.counts.pens };
       within = stands_within stands;
     }
 
@@ -241,6 +243,10 @@ loads_none t n =
     let rows = stands_rows t.stands in
     let within = cut_within t.stands.cut in
     omega arith
+
+pub on_ok : {T E : Type 0} {P Q : Type 0} (r : Result T E) → (P → Q) → OnOk r P → OnOk r Q
+on_ok (Ok x) f p = f p
+on_ok (Err e) f p = tt
 
 pub on_err : {T E : Type 0} {P : Type 0} (r : Result T E) → P → OnErr r P
 on_err (Ok x) p = tt

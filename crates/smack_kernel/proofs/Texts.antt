@@ -26,7 +26,7 @@ use Rattle.world_spec.specs.declared.Call.{Call}
 use Rattle.rule_word.specs.Layout.{IsId, IsPackable}
 use Rattle.live_table.specs.Lists.{Has, here, there}
 use Rattle.smack_kernel.specs.Tasks.{TaskValue}
-use Rattle.smack_kernel.specs.Answers.{ArePackedOps, IsRefused, IsTextRefused, written_call, IsOwnWritten, IsWritten}
+use Rattle.smack_kernel.specs.Answers.{ArePackedOps, IsRefused, IsTextRefused, written_call, IsOwnWritten, IsWritten, TakesPen}
 use Rattle.smack_kernel.specs.declared.kernel.Written.{Written}
 use Rattle.smack_kernel.specs.declared.kernel.Written.TheVariants as Written
 use Rattle.smack_kernel.proofs.Counts.{rules_few, subjects_few, labels_few}
@@ -256,6 +256,16 @@ text_refused labels v w name text version (Refusal.BadLine bad) t e r = (e, r)
 text_refused labels v w name text version (Refusal.UnknownLabel line) t e r = (e, r)
 text_refused labels v w name text version Refusal.NotPrivileged t e r = absurd t
 text_refused labels v w name text version (Refusal.JournalFull rows) t e r = absurd t
+
+-- it takes no pen
+pub text_penless : (v w : TaskValue) (version : ℕ) (fault : Refusal) → IsTextual fault → w.pens ≡ v.pens
+    → TakesPen v w (Written.Refused version fault)
+text_penless v w version Refusal.NoSuchFile t same = same
+text_penless v w version Refusal.TooLong t same = same
+text_penless v w version (Refusal.BadLine bad) t same = same
+text_penless v w version (Refusal.UnknownLabel line) t same = same
+text_penless v w version Refusal.NotPrivileged t same = absurd t
+text_penless v w version (Refusal.JournalFull rows) t same = absurd t
 
 -- a text that is an object call is written by it
 pub own_written : {E : Type 0} (labels : List (List ℕ)) (v w : TaskValue) (name text : List ℕ) (call : Call)

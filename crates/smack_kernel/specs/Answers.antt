@@ -151,6 +151,16 @@ IsWritten labels v w file text Written.TrailFull =
     IsTrailFull v w × ((call : Call) × (written_call (compiled labels file text) ≡ Some call))
 IsWritten labels v w file text Written.SeqFull = IsSeqFull v w
 
+-- A batch is published with the pen, and refused with it where privilege or room is lacking. Else the pen is not taken.
+abbrev pub TakesPen : TaskValue → TaskValue → Written → Type 0
+TakesPen v w (Written.Batch version) = w.pens ≡ v.pens + 1
+TakesPen v w (Written.Refused version Refusal.NotPrivileged) = w.pens ≡ v.pens + 1
+TakesPen v w (Written.Refused version (Refusal.JournalFull rows)) = w.pens ≡ v.pens + 1
+TakesPen v w (Written.Refused version fault) = w.pens ≡ v.pens
+TakesPen v w (Written.Entry r) = w.pens ≡ v.pens
+TakesPen v w Written.TrailFull = w.pens ≡ v.pens
+TakesPen v w Written.SeqFull = w.pens ≡ v.pens
+
 -- a mark is counted, and answers the version of the index
 abbrev pub IsMarked : TaskValue → TaskValue → ℕ → Type 0
 IsMarked v w version = (v.made < most_calls) × (w ≡ record v { made = v.made + 1 }) × (version ≡ v.version)

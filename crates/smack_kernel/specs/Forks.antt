@@ -9,7 +9,7 @@ use Rattle.live_table.specs.declared.view.View.{View}
 use Rattle.live_table.specs.Lists.{Begins, Has}
 use Rattle.live_table.specs.Batches.{batches_by}
 use Rattle.live_table.specs.Machines.{made, last_version, entries_by}
-use Rattle.live_table.specs.Seats.{Rests}
+use Rattle.live_table.specs.Seats.{Rests, SameCounts}
 use Rattle.smack_kernel.specs.declared.turns.Turned.{Turned}
 use Rattle.smack_kernel.specs.declared.turns.Turned.TheVariants as Turned
 use Rattle.smack_kernel.specs.Histories.{world_means, child_of}
@@ -57,6 +57,10 @@ pub record Drew (v w c : View Entry) (number : ℕ) : Type 0 where
   pub child_rests : Rests c
   pub child_entries : entries_by world_means number c.history ≡ []
   pub child_batches : batches_by number c.journal ≡ []
+  pub counts : SameCounts v w
+  pub child_loads : c.loads ≡ 0
+  pub child_looks : c.looks ≡ 0
+  pub child_pens : c.pens ≡ 0
 
 -- A seat gave the turn back with an entry that makes a task; its child has the number of that task and has seen what the
 -- seat then has.
@@ -74,3 +78,6 @@ pub record Forks (v w c : View Entry) (number : ℕ) (e : Entry) : Type 0 where
   pub child_rests : Rests c
   pub child_entries : entries_by world_means number c.history ≡ []
   pub child_batches : batches_by number c.journal ≡ []
+  pub child_loads : c.loads ≡ 0
+  pub child_looks : c.looks ≡ 0
+  pub child_pens : c.pens ≡ 0

@@ -23,7 +23,8 @@ pub record KernelValue : Type 0 where
 
 -- A task as contracts see it: its kernel and its number, how many calls it made, the version that its index stands for,
 -- its credentials, the numbers that it adopted, and the journal and the history that it has seen. Its own batches are
--- those of its number in that journal, and its own entries those in that history.
+-- those of its number in that journal, and its own entries those in that history. It counts the rows that it loaded, its
+-- looks at what is published, and how often it took the pen.
 pub record TaskValue : Type 0 where
   pub table : TableId
   pub number : ℕ
@@ -33,6 +34,9 @@ pub record TaskValue : Type 0 where
   pub ended : List ℕ
   pub journal : List Batch
   pub history : List Entry
+  pub loads : ℕ
+  pub looks : ℕ
+  pub pens : ℕ
 
 -- what a notice tells
 pub record ToldValue : Type 0 where
@@ -76,6 +80,9 @@ task_of s rules made creds = record {
   ended = rest_of s.view.numbers;
   journal = s.view.journal;
   history = s.view.history;
+  loads = s.view.loads;
+  looks = s.view.looks;
+  pens = s.view.pens;
 }
 
 -- What a task has seen is sound: its number is that of a task in the world that the seen history leaves, and its
@@ -96,6 +103,9 @@ first_task table = record {
   ended = [];
   journal = [];
   history = [];
+  loads = 0;
+  looks = 0;
+  pens = 0;
 }
 
 -- A call of a task changes neither its kernel nor its number, and not its ended numbers; what it has seen grows, by these
@@ -135,7 +145,8 @@ pub record Calls (v w : TaskValue) (call : Call) (r : Entered) : Type 0 where
   pub creds : w.creds ≡ creds_of (replay_of w.journal w.history) v.number
   pub enters : Enters v.number v.ended v.journal w.journal v.history w.history (next_entry v call r) r.place
 
--- The child of a fork, beside its parent after the call: it has seen what its parent has and has made nothing.
+-- The child of a fork, beside its parent after the call: it has seen what its parent has, and has neither made nor loaded
+-- anything.
 pub record Starts (w c : TaskValue) (number : ℕ) : Type 0 where
   pub table : c.table ≡ w.table
   pub is_number : c.number ≡ number
@@ -148,11 +159,21 @@ pub record Starts (w c : TaskValue) (number : ℕ) : Type 0 where
   pub batches : batches_by number c.journal ≡ []
   pub entries : entries_by world_means number c.history ≡ []
   pub within : c.version ≤ length c.journal
+  pub loads : c.loads ≡ 0
+  pub looks : c.looks ≡ 0
+  pub pens : c.pens ≡ 0
+
+-- the task has loaded no row since, nor looked, nor taken the pen
+pub record KeepsCounts (v w : TaskValue) : Type 0 where
+  pub loads : w.loads ≡ v.loads
+  pub looks : w.looks ≡ v.looks
+  pub pens : w.pens ≡ v.pens
 
 -- a task that heard a notice has seen what the notice has, and its index is as before
 pub record Hears (v : TaskValue) (n : ToldValue) (w : TaskValue) : Type 0 where
   pub stays : Stays v w
   pub version : w.version ≡ v.version
+  pub counts : KeepsCounts v w
   pub told_journal : Begins w.journal n.journal
   pub told_history : Begins w.history n.history
 
@@ -178,12 +199,13 @@ pub record Adopts (v c w : TaskValue) : Type 0 where
   pub version : v.version ≤ w.version
   pub told_version : c.version ≤ w.version
   pub greater : (w.version ≡ v.version) ⊎ (w.version ≡ c.version)
+  pub counts : KeepsCounts v w
   pub within : w.version ≤ length w.journal
 
 -- In one call no more rows are loaded than those that the task has seen after it and its index had not taken before it.
-abbrev pub Loads : TaskValue → TaskValue → ℕ → ℕ → Type 0
-Loads v w before after = after + version_rows v.journal v.version ≤ before + rows_of w.journal
+abbrev pub Loads : TaskValue → TaskValue → Type 0
+Loads v w = w.loads + version_rows v.journal v.version ≤ v.loads + rows_of w.journal
 
 -- Without want of memory no more are loaded than those that its index has taken in the call: no row twice.
-abbrev pub LoadsOnce : TaskValue → TaskValue → ℕ → ℕ → Type 0
-LoadsOnce v w before after = after + version_rows v.journal v.version ≤ before + version_rows w.journal w.version
+abbrev pub LoadsOnce : TaskValue → TaskValue → Type 0
+LoadsOnce v w = w.loads + version_rows v.journal v.version ≤ v.loads + version_rows w.journal w.version

@@ -5,8 +5,9 @@ ghost use Rattle.world_spec.specs.declared.Entry.{Entry};
 ghost use Rattle.world_spec.specs.Worlds.{creds_of};
 ghost use Rattle.world_spec.specs.Replays.{StandsOver};
 ghost use Rattle.live_table.specs.Batches.{rows_of};
+ghost use Rattle.live_table.specs.Lists.{Begins};
 ghost use Rattle.live_table.specs.Machines.{made as tasks_made};
-ghost use Rattle.live_table.specs.Seats.{with_loads};
+ghost use Rattle.live_table.specs.Seats.{SameCounts, with_loads};
 ghost use Rattle.smack_kernel.specs.Histories.{world_means, child_of};
 ghost use Rattle.smack_kernel.specs.Indexes.{StandsAt};
 ghost use Rattle.smack_kernel.specs.Tasks.{IsTask, Stays, task_of};
@@ -21,8 +22,6 @@ use live_table::{LiveTable, TaskSeat};
 use smack_base::{Duplicate, Pid};
 use std::alloc::{AllocError, Global};
 use std::sync::Wait;
-use std::sync::ledger::Ledger;
-use step_count::Steps;
 use task_creds::Cred;
 use world_spec::{Call, Reply, TaskCall};
 
@@ -73,7 +72,7 @@ fn makes_task(turned: &Turned) -> bool
 }
 
 /// Reads up, copies what a child is to have, and makes the fork, while the seat has the turn.
-fn fork_in_turn<L: Ledger>(
+fn fork_in_turn(
     alloc: Global,
     table: &LiveTable<WorldMachine>,
     seat: &mut TaskSeat<WorldMachine>,
@@ -82,7 +81,6 @@ fn fork_in_turn<L: Ledger>(
     machine: &mut WorldMachine,
     seq: u32,
     pid: Pid,
-    steps: &mut Steps<L>,
 ) -> Result<(Turned, Heritage), AllocError>
     requires table { seat.old.table ≡ table.now }
     requires stands { StandsAt index.old.rules index.old.rows seat.old.view.journal }
@@ -98,10 +96,10 @@ fn fork_in_turn<L: Ledger>(
     ensures world { StandsOver seat.old.view.journal machine.new.trail machine.new.world }
     ensures creds { creds.new ≡ creds_of machine.new.world seat.old.number }
     ensures err { OnErr result (machine.new ≡ machine.old) }
-    ensures cost { steps.new + index.old.rows ≤ steps.old + rows_of seat.old.view.journal }
-    ensures once { OnOk result (steps.new + index.old.rows ≤ steps.old + index.new.rows) }
+    ensures cost { seat.new.view.loads + index.old.rows ≤ seat.old.view.loads + rows_of seat.old.view.journal }
+    ensures once { OnOk result (seat.new.view.loads + index.old.rows ≤ seat.old.view.loads + index.new.rows) }
 {
-    read_up(alloc, table, seat, index, steps)?;
+    read_up(alloc, table, seat, index)?;
     let heritage = inherit(index, creds)?;
     let call = Call::Task(TaskCall::Fork { pid });
     match make_call(
@@ -150,6 +148,8 @@ fn give_with_child(
     ensures same { (seat.new.table ≡ seat.old.table) × (seat.new.number ≡ seat.old.number) × (result.table ≡ seat.old.table) }
     ensures forks { (e : Entry) → machine.trail ≡ seat.old.view.history ++ e ∷ []
         → Forks seat.old.view seat.new.view result.view result.number e }
+    ensures seen { Begins seat.new.view.journal seat.old.view.journal }
+    ensures counted { SameCounts seat.old.view seat.new.view }
 {
     let mut child = draw(table, seat);
     table.give_turn(seat, machine);
@@ -160,7 +160,7 @@ fn give_with_child(
 
 /// Takes the turn, makes a fork, and gives the turn back: the child, where one was made. On want of
 /// memory there is no entry.
-pub(crate) fn branch<R: Wait, L: Ledger>(
+pub(crate) fn branch<R: Wait>(
     rt: &R,
     alloc: Global,
     table: &LiveTable<WorldMachine>,
@@ -169,7 +169,6 @@ pub(crate) fn branch<R: Wait, L: Ledger>(
     creds: &mut Cred,
     made: u32,
     pid: Pid,
-    steps: &mut Steps<L>,
 ) -> Result<(Turned, Option<Task>), AllocError>
     requires table { seat.old.table ≡ table.now }
     requires task { IsTask seat.old index.old.rules index.old.rows creds.old }
@@ -178,8 +177,10 @@ pub(crate) fn branch<R: Wait, L: Ledger>(
     ensures task { IsTask seat.new index.new.rules index.new.rows creds.new }
     ensures branched { IfOk result (λ r. IsBranched (task_of seat.old index.old.rules made creds.old) (task_of seat.new index.new.rules made creds.new) pid r.0 r.1) }
     ensures stays { OnErr result (Stays (task_of seat.old index.old.rules made creds.old) (task_of seat.new index.new.rules made creds.new)) }
-    ensures cost { steps.new + index.old.rows ≤ steps.old + rows_of seat.new.view.journal }
-    ensures once { OnOk result (steps.new + index.old.rows ≤ steps.old + index.new.rows) }
+    ensures looks { seat.old.view.looks < seat.new.view.looks }
+    ensures penless { seat.new.view.pens ≡ seat.old.view.pens }
+    ensures cost { seat.new.view.loads + index.old.rows ≤ seat.old.view.loads + rows_of seat.new.view.journal }
+    ensures once { OnOk result (seat.new.view.loads + index.old.rows ≤ seat.old.view.loads + index.new.rows) }
 {
     let mut machine = table.take_turn(rt, seat);
     let forked = fork_in_turn(
@@ -191,7 +192,6 @@ pub(crate) fn branch<R: Wait, L: Ledger>(
         &mut machine,
         made + 1,
         pid,
-        steps,
     );
     match forked {
         Err(fault) => {

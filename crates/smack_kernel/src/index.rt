@@ -10,8 +10,6 @@ use live_table::{LiveTable, Machine, TaskSeat};
 use rule_fold::RuleIndex;
 use rules_spec::Batch;
 use std::alloc::{AllocError, Global};
-use std::sync::ledger::Ledger;
-use step_count::Steps;
 
 /// The rules of a version of the journal, and how many rows that version has.
 #[derive(Drop)]
@@ -57,12 +55,11 @@ impl Index {
 
 /// Brings an index to all that the seat has seen, batch by batch, and loads only the rows behind
 /// those that it has taken. On want of memory it stands for a version in between.
-pub(crate) fn read_up<M: Machine, L: Ledger>(
+pub(crate) fn read_up<M: Machine>(
     alloc: Global,
     table: &LiveTable<M>,
     seat: &mut TaskSeat<M>,
     index: &mut Index,
-    steps: &mut Steps<L>,
 ) -> Result<(), AllocError>
     requires table { seat.old.table ≡ table.now }
     requires stands { StandsAt index.old.rules index.old.rows seat.old.view.journal }
@@ -71,34 +68,34 @@ pub(crate) fn read_up<M: Machine, L: Ledger>(
     ensures later { index.old.rules.version ≤ index.new.rules.version }
     ensures whole { OnOk result (index.new.rules.version ≡ length seat.old.view.journal) }
     ensures lacks { OnErr result (index.new.rules.version < length seat.old.view.journal) }
-    ensures cost { steps.new + index.old.rows ≤ steps.old + rows_of seat.old.view.journal }
-    ensures once { OnOk result (steps.new + index.old.rows ≤ steps.old + index.new.rows) }
+    ensures cost { seat.new.view.loads + index.old.rows ≤ seat.old.view.loads + rows_of seat.old.view.journal }
+    ensures once { OnOk result (seat.new.view.loads + index.old.rows ≤ seat.old.view.loads + index.new.rows) }
 {
-    while let Some(batch) = table.batch(alloc, seat, index.rows, steps)? {
+    while let Some(batch) = table.batch(alloc, seat, index.rows)? {
         index.absorb(&batch)?;
     }
     Ok(())
 }
 
 /// Looks at the published rows, and brings an index to them.
-pub(crate) fn look<M: Machine, L: Ledger>(
+pub(crate) fn look<M: Machine>(
     alloc: Global,
     table: &LiveTable<M>,
     seat: &mut TaskSeat<M>,
     index: &mut Index,
-    steps: &mut Steps<L>,
 ) -> Result<(), AllocError>
     requires table { seat.old.table ≡ table.now }
     requires stands { StandsAt index.old.rules index.old.rows seat.old.view.journal }
     ensures same { (seat.new.table ≡ seat.old.table) × (seat.new.number ≡ seat.old.number) }
     ensures sees { Sees seat.old.view seat.new.view }
+    ensures looked { seat.new.view.looks ≡ seat.old.view.looks + 1 }
     ensures stands { StandsAt index.new.rules index.new.rows seat.new.view.journal }
     ensures later { index.old.rules.version ≤ index.new.rules.version }
     ensures whole { OnOk result (index.new.rules.version ≡ length seat.new.view.journal) }
     ensures lacks { OnErr result (index.new.rules.version < length seat.new.view.journal) }
-    ensures cost { steps.new + index.old.rows ≤ steps.old + rows_of seat.new.view.journal }
-    ensures once { OnOk result (steps.new + index.old.rows ≤ steps.old + index.new.rows) }
+    ensures cost { seat.new.view.loads + index.old.rows ≤ seat.old.view.loads + rows_of seat.new.view.journal }
+    ensures once { OnOk result (seat.new.view.loads + index.old.rows ≤ seat.old.view.loads + index.new.rows) }
 {
     table.see(seat);
-    read_up(alloc, table, seat, index, steps)
+    read_up(alloc, table, seat, index)
 }

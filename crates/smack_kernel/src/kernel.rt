@@ -1,6 +1,6 @@
 ghost use Rattle.std.specs.Prelude.{◌≡◌, ◌<◌, ◌+◌, length, false, IfOk, IfErr, OnOk, OnErr};
 ghost use Rattle.smack_kernel.specs.Tasks.{first_task, most_calls, Stays, Hears, Adopts, Loads, LoadsOnce};
-ghost use Rattle.smack_kernel.specs.Answers.{ArePackedOps, IsAsked, is_fork, IsCalled, IsForked, IsOpsWritten, IsOwnWritten, IsWritten, IsMarked, IsSeqFull, IsWhole, Closes};
+ghost use Rattle.smack_kernel.specs.Answers.{ArePackedOps, IsAsked, is_fork, IsCalled, IsForked, IsOpsWritten, IsOwnWritten, IsWritten, TakesPen, IsMarked, IsSeqFull, IsWhole, Closes};
 
 use crate::closed::Closed;
 use crate::forks::branch;
@@ -19,8 +19,6 @@ use smackfs::{TextFault, compile};
 use std::alloc::{AllocError, Global};
 use std::marker::Model;
 use std::sync::Wait;
-use std::sync::ledger::Ledger;
-use step_count::Steps;
 use task_creds::Cred;
 use world_spec::{Call, TaskCall};
 
@@ -109,46 +107,44 @@ impl Kernel {
     /// Looks at the published rows and takes those that the task's rules lack. It waits for nobody.
     /// On want of memory the rules are those of a version in between, and the next call goes on from
     /// there.
-    pub fn catch_up<L: Ledger>(
-        &self,
-        alloc: Global,
-        task: &mut Task,
-        steps: &mut Steps<L>,
-    ) -> Result<(), AllocError>
+    pub fn catch_up(&self, alloc: Global, task: &mut Task) -> Result<(), AllocError>
         requires { task.old.table ≡ self.now.table }
         ensures same { (task.new.table ≡ task.old.table) × (task.new.number ≡ task.old.number) }
         ensures stays { Stays task.old task.new }
         ensures whole { OnOk result (task.new.version ≡ length task.new.journal) }
         ensures lacks { OnErr result (task.new.version < length task.new.journal) }
-        ensures loads { Loads task.old task.new steps.old steps.new }
-        ensures once { OnOk result (LoadsOnce task.old task.new steps.old steps.new) }
+        ensures loads { Loads task.old task.new }
+        ensures once { OnOk result (LoadsOnce task.old task.new) }
+        ensures looks { task.old.looks < task.new.looks }
+        ensures penless { task.new.pens ≡ task.old.pens }
     {
-        look(alloc, &self.table, &mut task.seat, &mut task.index, steps)
+        look(alloc, &self.table, &mut task.seat, &mut task.index)
     }
 
     /// Catches up, and judges a question by the ordered cases. It waits for nobody, and takes memory
     /// only where the task's rules lack a batch.
-    pub fn ask<L: Ledger>(
+    pub fn ask(
         &self,
         alloc: Global,
         task: &mut Task,
         s: LabelId,
         o: LabelId,
         m: Modes,
-        steps: &mut Steps<L>,
     ) -> Result<Asked, AllocError>
         requires { task.old.table ≡ self.now.table }
         ensures same { (task.new.table ≡ task.old.table) × (task.new.number ≡ task.old.number) }
         ensures asked { IfOk result (IsAsked task.old task.new s o m) }
         ensures stays { OnErr result (Stays task.old task.new) }
         ensures lacks { OnErr result (task.new.version < length task.new.journal) }
-        ensures loads { Loads task.old task.new steps.old steps.new }
-        ensures once { OnOk result (LoadsOnce task.old task.new steps.old steps.new) }
+        ensures loads { Loads task.old task.new }
+        ensures once { OnOk result (LoadsOnce task.old task.new) }
+        ensures looks { task.old.made < most_calls → task.old.looks < task.new.looks }
+        ensures penless { task.new.pens ≡ task.old.pens }
     {
         if task.made >= MOST_CALLS {
             return Ok(Asked::SeqFull);
         }
-        look(alloc, &self.table, &mut task.seat, &mut task.index, steps)?;
+        look(alloc, &self.table, &mut task.seat, &mut task.index)?;
         task.made += 1;
         Ok(Asked::Verdict {
             version: task.index.rules.version(),
@@ -160,21 +156,22 @@ impl Kernel {
     /// rows and catches up, and the world steps in that version; the step is one entry of the history.
     /// A call that is denied or refused is an entry too. On want of memory there is no entry, and the
     /// call comes back; such a call is not counted. That the turn is ever had is not promised.
-    pub fn call<R: Wait, L: Ledger>(
+    pub fn call<R: Wait>(
         &self,
         rt: &R,
         alloc: Global,
         task: &mut Task,
         call: Call,
-        steps: &mut Steps<L>,
     ) -> Result<Called, (AllocError, Call)>
         requires table { task.old.table ≡ self.now.table }
         requires plain { is_fork call ≡ false }
         ensures same { (task.new.table ≡ task.old.table) × (task.new.number ≡ task.old.number) }
         ensures called { IfOk result (IsCalled task.old task.new call) }
         ensures back { IfErr result (λ e. (e.1 ≡ call) × Stays task.old task.new) }
-        ensures loads { Loads task.old task.new steps.old steps.new }
-        ensures once { OnOk result (LoadsOnce task.old task.new steps.old steps.new) }
+        ensures loads { Loads task.old task.new }
+        ensures once { OnOk result (LoadsOnce task.old task.new) }
+        ensures looks { task.old.made < most_calls → task.old.looks < task.new.looks }
+        ensures penless { task.new.pens ≡ task.old.pens }
     {
         if task.made >= MOST_CALLS {
             return Ok(Called::SeqFull(call));
@@ -188,7 +185,6 @@ impl Kernel {
             &mut task.creds,
             task.made,
             call,
-            steps,
         ) {
             Ok(Turned::Entry(entered)) => {
                 task.made += 1;
@@ -203,20 +199,21 @@ impl Kernel {
     /// number that the reply names, its parent's credentials and rules as they are after the call, and
     /// has seen all that its parent then has, the entry of the fork among it. On want of memory there
     /// is no entry.
-    pub fn fork<R: Wait, L: Ledger>(
+    pub fn fork<R: Wait>(
         &self,
         rt: &R,
         alloc: Global,
         task: &mut Task,
         pid: Pid,
-        steps: &mut Steps<L>,
     ) -> Result<(Called, Option<Task>), AllocError>
         requires { task.old.table ≡ self.now.table }
         ensures same { (task.new.table ≡ task.old.table) × (task.new.number ≡ task.old.number) }
         ensures forked { IfOk result (λ r. IsForked task.old task.new pid r.0 r.1) }
         ensures stays { OnErr result (Stays task.old task.new) }
-        ensures loads { Loads task.old task.new steps.old steps.new }
-        ensures once { OnOk result (LoadsOnce task.old task.new steps.old steps.new) }
+        ensures loads { Loads task.old task.new }
+        ensures once { OnOk result (LoadsOnce task.old task.new) }
+        ensures looks { task.old.made < most_calls → task.old.looks < task.new.looks }
+        ensures penless { task.new.pens ≡ task.old.pens }
     {
         if task.made >= MOST_CALLS {
             let call = Call::Task(TaskCall::Fork { pid });
@@ -231,7 +228,6 @@ impl Kernel {
             &mut task.creds,
             task.made,
             pid,
-            steps,
         )?;
         match turned {
             Turned::Entry(entered) => {
@@ -248,33 +244,33 @@ impl Kernel {
     /// journal has no room; else its writes are published as one batch. For a file of the task's own
     /// rules the text is an object call. Want of memory comes only before anything is published or
     /// entered, and such a call is not counted.
-    pub fn write<R: Wait, L: Ledger>(
+    pub fn write<R: Wait>(
         &self,
         rt: &R,
         alloc: Global,
         task: &mut Task,
         file: &[u8],
         text: &[u8],
-        steps: &mut Steps<L>,
     ) -> Result<Written, AllocError>
         requires { task.old.table ≡ self.now.table }
         ensures same { (task.new.table ≡ task.old.table) × (task.new.number ≡ task.old.number) }
         ensures written { IfOk result (IsWritten self.now.labels task.old task.new file.now text.now) }
         ensures stays { OnErr result (Stays task.old task.new) }
-        ensures loads { Loads task.old task.new steps.old steps.new }
-        ensures once { OnOk result (LoadsOnce task.old task.new steps.old steps.new) }
+        ensures loads { Loads task.old task.new }
+        ensures once { OnOk result (LoadsOnce task.old task.new) }
+        ensures pens { IfOk result (TakesPen task.old task.new) }
     {
         if task.made >= MOST_CALLS {
             return Ok(Written::SeqFull);
         }
         prove!(self.labels.len() as usize <= Labels::LIMIT);
         match compile(alloc, &self.labels, file, text) {
-            Ok(Compiled::Rules(ops)) => self.write_ops(rt, alloc, task, ops, steps),
+            Ok(Compiled::Rules(ops)) => self.write_ops(rt, alloc, task, ops),
             Ok(Compiled::SelfRules(rules)) => {
-                self.write_own(rt, alloc, task, TaskCall::SelfRules { rules }, steps)
+                self.write_own(rt, alloc, task, TaskCall::SelfRules { rules })
             }
             Ok(Compiled::Relabels(labels)) => {
-                self.write_own(rt, alloc, task, TaskCall::Relabels { labels }, steps)
+                self.write_own(rt, alloc, task, TaskCall::Relabels { labels })
             }
             Err(TextFault::Refused(fault)) => Ok(Kernel::refuse_text(task, fault)),
             Err(TextFault::Memory) => Err(AllocError),
@@ -295,13 +291,12 @@ impl Kernel {
     }
 
     /// Publishes the writes of a good text.
-    fn write_ops<R: Wait, L: Ledger>(
+    fn write_ops<R: Wait>(
         &self,
         rt: &R,
         alloc: Global,
         task: &mut Task,
         ops: RuleOps,
-        steps: &mut Steps<L>,
     ) -> Result<Written, AllocError>
         requires table { task.old.table ≡ self.now.table }
         requires few { task.old.made < most_calls }
@@ -309,8 +304,9 @@ impl Kernel {
         ensures same { (task.new.table ≡ task.old.table) × (task.new.number ≡ task.old.number) }
         ensures written { IfOk result (IsOpsWritten task.old task.new ops) }
         ensures stays { OnErr result (Stays task.old task.new) }
-        ensures loads { Loads task.old task.new steps.old steps.new }
-        ensures once { OnOk result (LoadsOnce task.old task.new steps.old steps.new) }
+        ensures loads { Loads task.old task.new }
+        ensures once { OnOk result (LoadsOnce task.old task.new) }
+        ensures pens { task.new.pens ≡ task.old.pens + 1 }
     {
         let batch = Batch {
             task: task.number(),
@@ -325,7 +321,6 @@ impl Kernel {
             &mut task.index,
             &task.creds,
             &batch,
-            steps,
         )?;
         task.made += 1;
         let version = task.version();
@@ -343,23 +338,23 @@ impl Kernel {
     }
 
     /// Makes the object call that a good text is.
-    fn write_own<R: Wait, L: Ledger>(
+    fn write_own<R: Wait>(
         &self,
         rt: &R,
         alloc: Global,
         task: &mut Task,
         call: TaskCall,
-        steps: &mut Steps<L>,
     ) -> Result<Written, AllocError>
         requires table { task.old.table ≡ self.now.table }
         requires plain { is_fork (Call.Task call) ≡ false }
         ensures same { (task.new.table ≡ task.old.table) × (task.new.number ≡ task.old.number) }
         ensures written { IfOk result (IsOwnWritten task.old task.new (Call.Task call)) }
         ensures stays { OnErr result (Stays task.old task.new) }
-        ensures loads { Loads task.old task.new steps.old steps.new }
-        ensures once { OnOk result (LoadsOnce task.old task.new steps.old steps.new) }
+        ensures loads { Loads task.old task.new }
+        ensures once { OnOk result (LoadsOnce task.old task.new) }
+        ensures penless { task.new.pens ≡ task.old.pens }
     {
-        match self.call(rt, alloc, task, Call::Task(call), steps) {
+        match self.call(rt, alloc, task, Call::Task(call)) {
             Ok(Called::Entry(entered)) => Ok(Written::Entry(entered)),
             Ok(Called::TrailFull(_)) => Ok(Written::TrailFull),
             Ok(Called::SeqFull(_)) => Ok(Written::SeqFull),
@@ -422,12 +417,12 @@ impl Kernel {
     }
 
     /// Ends the kernel: its labels, and all that was published and entered. The task is whole. On
-    /// want of memory kernel and task come back as they were.
+    /// want of memory kernel and task come back as they were, but for the rows that were loaded.
     pub fn close(self, alloc: Global, task: Task) -> Result<Closed, (AllocError, Kernel, Task)>
         requires table { task.table ≡ self.table }
         requires whole { IsWhole task }
         ensures closed { IfOk result (Closes self.labels task) }
-        ensures back { IfErr result (λ e. (e.1 ≡ self) × (e.2 ≡ task)) }
+        ensures back { IfErr result (λ e. (e.1 ≡ self) × (e.2 ≡ record task { loads = e.2.loads })) }
     {
         let Task {
             seat,

@@ -33,6 +33,5 @@ mod world_machine;
 pub use closed::Closed;
 pub use file_spec::Refusal;
 pub use kernel::{Asked, Called, Kernel, SeqFull, Written};
-pub use step_count::Steps;
 pub use task::{Notice, Task};
 pub use turns::Entered;

@@ -17,8 +17,6 @@ use smack_base::{Cap, RuleOp};
 use smack_decide::effective;
 use std::alloc::{AllocError, Global};
 use std::sync::Wait;
-use std::sync::ledger::Ledger;
-use step_count::Steps;
 use task_creds::Cred;
 
 /// What came of writes.
@@ -78,14 +76,13 @@ fn give_pen_back(table: &LiveTable<WorldMachine>, seat: &mut TaskSeat<WorldMachi
 
 /// Judges a batch in the version that the seat sees now. Where it may be published the index has
 /// taken it, so nothing that follows can fail.
-fn judge<L: Ledger>(
+fn judge(
     alloc: Global,
     table: &LiveTable<WorldMachine>,
     seat: &mut TaskSeat<WorldMachine>,
     index: &mut Index,
     creds: &Cred,
     batch: &Batch,
-    steps: &mut Steps<L>,
 ) -> Result<Published, AllocError>
     requires table { seat.old.table ≡ table.now }
     requires stands { StandsAt index.old.rules index.old.rows seat.old.view.journal }
@@ -96,10 +93,10 @@ fn judge<L: Ledger>(
     ensures whole { IfOk result (λ p. index.new.rules.version ≡ length (journal_after seat.old.view.journal batch.now p)) }
     ensures later { index.old.rules.version ≤ index.new.rules.version }
     ensures err { OnErr result (StandsAt index.new.rules index.new.rows seat.old.view.journal) }
-    ensures cost { steps.new + index.old.rows ≤ steps.old + rows_of seat.old.view.journal }
-    ensures once { OnOk result (steps.new + index.old.rows ≤ steps.old + index.new.rows) }
+    ensures cost { seat.new.view.loads + index.old.rows ≤ seat.old.view.loads + rows_of seat.old.view.journal }
+    ensures once { OnOk result (seat.new.view.loads + index.old.rows ≤ seat.old.view.loads + index.new.rows) }
 {
-    read_up(alloc, table, seat, index, steps)?;
+    read_up(alloc, table, seat, index)?;
     if !effective(creds, Cap::MacAdmin, &index.rules) {
         return Ok(Published::NotPrivileged);
     }
@@ -113,7 +110,7 @@ fn judge<L: Ledger>(
 
 /// Publishes a batch, which is judged with the pen, or gives the pen back with nothing. Want of
 /// memory comes before anything is published.
-pub(crate) fn publish<R: Wait, L: Ledger>(
+pub(crate) fn publish<R: Wait>(
     rt: &R,
     alloc: Global,
     table: &LiveTable<WorldMachine>,
@@ -121,7 +118,6 @@ pub(crate) fn publish<R: Wait, L: Ledger>(
     index: &mut Index,
     creds: &Cred,
     batch: &Batch,
-    steps: &mut Steps<L>,
 ) -> Result<Published, AllocError>
     requires table { seat.old.table ≡ table.now }
     requires rests { Rests seat.old.view }
@@ -139,11 +135,12 @@ pub(crate) fn publish<R: Wait, L: Ledger>(
         seat.old.view.history seat.new.view.history batch.now creds.now) }
     ensures err { OnErr result (Grows seat.old.number (rest_of seat.old.view.numbers) seat.old.view.journal seat.new.view.journal
         seat.old.view.history seat.new.view.history [] []) }
-    ensures cost { steps.new + index.old.rows ≤ steps.old + rows_of seat.new.view.journal }
-    ensures once { OnOk result (steps.new + index.old.rows ≤ steps.old + index.new.rows) }
+    ensures pens { seat.new.view.pens ≡ seat.old.view.pens + 1 }
+    ensures cost { seat.new.view.loads + index.old.rows ≤ seat.old.view.loads + rows_of seat.new.view.journal }
+    ensures once { OnOk result (seat.new.view.loads + index.old.rows ≤ seat.old.view.loads + index.new.rows) }
 {
     table.take_pen(rt, seat);
-    match judge(alloc, table, seat, index, creds, batch, steps) {
+    match judge(alloc, table, seat, index, creds, batch) {
         Ok(Published::Batch) => {
             publish_batch(table, seat, batch);
             Ok(Published::Batch)

@@ -21,8 +21,6 @@ use rules_spec::Checks;
 use smack_world::Stepped;
 use std::alloc::{AllocError, Global};
 use std::sync::Wait;
-use std::sync::ledger::Ledger;
-use step_count::Steps;
 use task_creds::Cred;
 use world_spec::{Call, Reply};
 
@@ -94,7 +92,7 @@ pub(crate) fn make_call(
 }
 
 /// Reads up and makes a call, while the seat has the turn.
-fn call_in_turn<L: Ledger>(
+fn call_in_turn(
     alloc: Global,
     table: &LiveTable<WorldMachine>,
     seat: &mut TaskSeat<WorldMachine>,
@@ -103,7 +101,6 @@ fn call_in_turn<L: Ledger>(
     machine: &mut WorldMachine,
     seq: u32,
     call: Call,
-    steps: &mut Steps<L>,
 ) -> Result<Turned, (AllocError, Call)>
     requires table { seat.old.table ≡ table.now }
     requires stands { StandsAt index.old.rules index.old.rows seat.old.view.journal }
@@ -119,10 +116,10 @@ fn call_in_turn<L: Ledger>(
     ensures creds { creds.new ≡ creds_of machine.new.world seat.old.number }
     ensures back { IfErr result (λ e. e.1 ≡ call) }
     ensures err { OnErr result (machine.new ≡ machine.old) }
-    ensures cost { steps.new + index.old.rows ≤ steps.old + rows_of seat.old.view.journal }
-    ensures once { OnOk result (steps.new + index.old.rows ≤ steps.old + index.new.rows) }
+    ensures cost { seat.new.view.loads + index.old.rows ≤ seat.old.view.loads + rows_of seat.old.view.journal }
+    ensures once { OnOk result (seat.new.view.loads + index.old.rows ≤ seat.old.view.loads + index.new.rows) }
 {
-    if let Err(fault) = read_up(alloc, table, seat, index, steps) {
+    if let Err(fault) = read_up(alloc, table, seat, index) {
         return Err((fault, call));
     }
     make_call(
@@ -138,7 +135,7 @@ fn call_in_turn<L: Ledger>(
 
 /// Takes the turn, makes a call that is no fork, and gives the turn back. On want of memory there is
 /// no entry.
-pub(crate) fn enter<R: Wait, L: Ledger>(
+pub(crate) fn enter<R: Wait>(
     rt: &R,
     alloc: Global,
     table: &LiveTable<WorldMachine>,
@@ -147,7 +144,6 @@ pub(crate) fn enter<R: Wait, L: Ledger>(
     creds: &mut Cred,
     made: u32,
     call: Call,
-    steps: &mut Steps<L>,
 ) -> Result<Turned, (AllocError, Call)>
     requires table { seat.old.table ≡ table.now }
     requires task { IsTask seat.old index.old.rules index.old.rows creds.old }
@@ -158,8 +154,10 @@ pub(crate) fn enter<R: Wait, L: Ledger>(
     ensures turned { IfOk result (IsTurned (task_of seat.old index.old.rules made creds.old) (task_of seat.new index.new.rules made creds.new) call) }
     ensures back { IfErr result (λ e. (e.1 ≡ call)
         × Stays (task_of seat.old index.old.rules made creds.old) (task_of seat.new index.new.rules made creds.new)) }
-    ensures cost { steps.new + index.old.rows ≤ steps.old + rows_of seat.new.view.journal }
-    ensures once { OnOk result (steps.new + index.old.rows ≤ steps.old + index.new.rows) }
+    ensures looks { seat.old.view.looks < seat.new.view.looks }
+    ensures penless { seat.new.view.pens ≡ seat.old.view.pens }
+    ensures cost { seat.new.view.loads + index.old.rows ≤ seat.old.view.loads + rows_of seat.new.view.journal }
+    ensures once { OnOk result (seat.new.view.loads + index.old.rows ≤ seat.old.view.loads + index.new.rows) }
 {
     let mut machine = table.take_turn(rt, seat);
     let turned = call_in_turn(
@@ -171,7 +169,6 @@ pub(crate) fn enter<R: Wait, L: Ledger>(
         &mut machine,
         made + 1,
         call,
-        steps,
     );
     table.give_turn(seat, machine);
     turned

@@ -36,7 +36,7 @@ loop-batch-preserved g c =
     c.in_ok-absorb.ensures.rules c.in_ok-absorb.ensures.rows in
     let number = r.number in
     let rows = c.in_ok-absorb.ensures.rows in
-    let cost = c.batch.ensures.cost _ _ cut in
+    let cost = (c.batch.ensures.few _ _ cut).1 in
     let first = first_rows_of c.in_ok-batch.field-0 c.in-Some.batch v.1
     (c.in_ok-batch.ensures.batch _ _ cut) c.in-Some.is in
     let later = v.2 in
@@ -66,7 +66,7 @@ returns-in_err-batch-clause-cost g c =
     let v = c.loop-batch.invariant in
     let cut = subst (λ (s : SeatValue _). Cut s.view.journal v.1.front v.1.rest c.loop-batch.index.rows)
     (sym v.0) v.1.cut in
-    let cost = c.batch.ensures.cost _ _ cut in
+    let cost = (c.batch.ensures.few _ _ cut).1 in
     let left = first_rows_left v.1 in
     let so_far = v.3 in
     omega arith
@@ -76,7 +76,7 @@ returns-in_err-absorb-clause-cost g c =
     let v = c.loop-batch.invariant in
     let cut = subst (λ (s : SeatValue _). Cut s.view.journal v.1.front v.1.rest c.loop-batch.index.rows)
     (sym v.0) v.1.cut in
-    let cost = c.batch.ensures.cost _ _ cut in
+    let cost = (c.batch.ensures.few _ _ cut).1 in
     let left = first_rows_left v.1 in
     let so_far = v.3 in
     omega arith

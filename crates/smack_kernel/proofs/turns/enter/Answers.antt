@@ -3,6 +3,7 @@ use Rattle.std.specs.Prelude.{IfOk}
 use Rattle.rules_spec.specs.Rulings.{ruling}
 use Rattle.world_spec.specs.declared.Entry.{Entry}
 use Rattle.world_spec.specs.Worlds.{creds_of}
+use Rattle.live_table.specs.declared.view.View.{View}
 use Rattle.live_table.specs.Batches.{rows_of}
 use Rattle.live_table.specs.Plays.{MayGive, given}
 use Rattle.live_table.specs.Seats.{SeatValue, with_loads}
@@ -10,6 +11,7 @@ use Rattle.live_table.proofs.AfterSteps.{turns_loaded}
 use Rattle.smack_kernel.specs.Histories.{world_means}
 use Rattle.smack_kernel.specs.Turns.{IsMade}
 use Rattle.smack_kernel.proofs.Worlds.{IsLive}
+use Rattle.smack_kernel.proofs.Tasks.{on_ok}
 use Rattle.smack_kernel.proofs.Turning.{entries_made, trail_made, plain_made, turn_live, may_give, task_turned, turned_all, back_all}
 use Rattle.smack_kernel.proofs.turns.enter.Goals as goal
 
@@ -135,29 +137,27 @@ returns-clause-back g c =
 
 pub returns-clause-cost : goal.returns-clause-cost
 returns-clause-cost g c =
-    let s = c.args.seat.now in
-    let loads = c.call_in_turn-turned.new.seat.view.loads in
-    let s1 = with_loads loads c.take_turn-machine.new.seat in
-    let same1 = c.take_turn-machine.ensures.same in
-    let t = turns_loaded world_means loads c.take_turn-machine.ensures.turn in
-    let x = c.take_turn-machine.result in
-    let m' = c.call_in_turn-turned.new.machine in
-    let seq = c.args.made + 1 in
-    let call = c.args.call in
-    let r = c.call_in_turn-turned.result in
-    let e = c.call_in_turn-turned.ensures in
-    let made = subst (λ n. IfOk r (IsMade x m' (ruling s1.view.journal) n seq call)) same1.1 e.made in
-    let entries = entries_made s.number seq call r in
-    let hist : m'.trail ≡ c.call_in_turn-turned.new.seat.view.history ++ entries =
-    trail_made s1.view.journal x m' s.number seq call r made e.err
-    ∙ ap (λ z. z ++ entries) (t.is ∙ sym (ap (λ (z : SeatValue Entry). z.view.history) e.same)) in
-    let is : c.give_turn.new.seat.view ≡ given s1.view entries = c.give_turn.ensures.given entries hist
-    ∙ ap (λ (z : SeatValue Entry). given z.view entries) e.same in
-    let same3 : (c.give_turn.new.seat.table ≡ s1.table) × (c.give_turn.new.seat.number ≡ s1.number) = (
-      c.give_turn.ensures.same.0 ∙ ap (λ (z : SeatValue Entry). z.table) e.same,
-      c.give_turn.ensures.same.1 ∙ ap (λ (z : SeatValue Entry). z.number) e.same,
-    ) in
-    let creds = e.creds ∙ ap (creds_of m'.world) same1.1 in
-    let rows = ap (λ (z : Rattle.live_table.specs.declared.view.View.View _). rows_of z.journal) is in
-    let cost = e.cost in
+    let took = c.take_turn-machine.ensures.counted.0 in
+    let gave = c.give_turn.ensures.counted.loads in
+    let rows = ap rows_of c.give_turn.ensures.seen in
+    let same = ap (λ (s : SeatValue Entry). rows_of s.view.journal) c.call_in_turn-turned.ensures.same in
+    let cost = c.call_in_turn-turned.ensures.cost in
     omega arith
+
+pub returns-clause-once : goal.returns-clause-once
+returns-clause-once g c =
+    let took = c.take_turn-machine.ensures.counted.0 in
+    let gave = c.give_turn.ensures.counted.loads in
+    on_ok c.call_in_turn-turned.result (λ once. omega arith) c.call_in_turn-turned.ensures.once
+
+pub returns-clause-looks : goal.returns-clause-looks
+returns-clause-looks g c =
+    let took = c.take_turn-machine.ensures.counted.1 in
+    let same = ap (λ (s : SeatValue Entry). s.view.looks) c.call_in_turn-turned.ensures.same in
+    let gave = c.give_turn.ensures.counted.looks in
+    omega arith
+
+pub returns-clause-penless : goal.returns-clause-penless
+returns-clause-penless g c =
+    c.give_turn.ensures.counted.pens
+    ∙ (ap (λ (s : SeatValue Entry). s.view.pens) c.call_in_turn-turned.ensures.same ∙ c.take_turn-machine.ensures.counted.2)

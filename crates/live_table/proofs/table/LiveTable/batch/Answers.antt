@@ -45,18 +45,6 @@ ops_at-requires-clause-ops g c =
       len,
     )
 
-pub returns-in_err-ops-clause-cost : goal.returns-in_err-ops-clause-cost
-returns-in_err-ops-clause-cost g c = λ front rest d.
-    let rows = c.rows_seen.ensures.rows in
-    let inside = c.if-at-rows_seen.false in
-    let h = headed _ front rest c.args.at c.rows_seen.ensures.packed d (omega arith) in
-    let len = ap (λ x. x.len)
-    (heads_it h c.unpack_head.result c.in-Some.head c.row.ensures.word c.unpack_head.ensures.inverts c.in-Some.is) in
-    let all = first_rows_of h in
-    let one = c.row.ensures.cost in
-    let more = c.ops_at.ensures.cost in
-    omega arith
-
 pub returns-clause-batch : goal.returns-clause-batch
 returns-clause-batch g c = λ front rest d.
     let rows = c.rows_seen.ensures.rows in
@@ -81,18 +69,6 @@ returns-clause-room g c =
     (subst (λ (s : SeatValue _). OpsAt (words_of s.view.journal) (c.args.at + 1) h.batch.ops)
     (sym c.row.ensures.loaded) h.ops) (ap (λ x. x.len) head)) in
     let fits = h.fits in
-    omega arith
-
-pub returns-clause-cost : goal.returns-clause-cost
-returns-clause-cost g c = λ front rest d.
-    let rows = c.rows_seen.ensures.rows in
-    let inside = c.if-at-rows_seen.false in
-    let h = headed _ front rest c.args.at c.rows_seen.ensures.packed d (omega arith) in
-    let len = ap (λ x. x.len)
-    (heads_it h c.unpack_head.result c.in-Some.head c.row.ensures.word c.unpack_head.ensures.inverts c.in-Some.is) in
-    let all = first_rows_of h in
-    let one = c.row.ensures.cost in
-    let more = c.ops_at.ensures.cost in
     omega arith
 
 pub returns-in_err-ops-clause-same : goal.returns-in_err-ops-clause-same

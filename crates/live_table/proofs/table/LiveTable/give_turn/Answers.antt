@@ -44,3 +44,27 @@ returns-clause-given g c =
     (gave_all g.M.Machine.means 0 _ _ _ c.args.value _ c.exchange.ensures.3 (ap rest o.1) c.store.ensures.2 es
     (h ∙ ap (λ (s : SeatValue _). s.view.history ++ es) (sym c.seat.view_is)))
     ∙ ap (λ (s : SeatValue _). given s.view es) c.seat.view_is
+
+pub returns-clause-counted : goal.returns-clause-counted
+returns-clause-counted g c =
+    let turn = ap (λ (s : SeatValue _). s.view.turn) c.seat.view_is ∙ c.requires.turn in
+    let o = slots_one _ (c.seat.invariant.held ∙ ap (λ b. if b then 0 ∷ [] else []) turn) in
+    let may = subst (λ (s : SeatValue _). (es : List _) × MayGive g.M.Machine.means s.view c.args.value es)
+    (sym c.seat.view_is) c.requires.may in
+    let is = gave_all g.M.Machine.means 0 _ _ _ c.args.value _ c.exchange.ensures.3
+    (ap rest o.1) c.store.ensures.2 may.0 may.1.history in
+    record {
+      loads = ap (λ z. z.0.loads) is ∙ ap (λ (s : SeatValue _). s.view.loads) c.seat.view_is;
+      looks = ap (λ z. z.0.looks) is ∙ ap (λ (s : SeatValue _). s.view.looks) c.seat.view_is;
+      pens = ap (λ z. z.0.pens) is ∙ ap (λ (s : SeatValue _). s.view.pens) c.seat.view_is;
+    }
+
+pub returns-clause-seen : goal.returns-clause-seen
+returns-clause-seen g c =
+    let turn = ap (λ (s : SeatValue _). s.view.turn) c.seat.view_is ∙ c.requires.turn in
+    let o = slots_one _ (c.seat.invariant.held ∙ ap (λ b. if b then 0 ∷ [] else []) turn) in
+    let may = subst (λ (s : SeatValue _). (es : List _) × MayGive g.M.Machine.means s.view c.args.value es)
+    (sym c.seat.view_is) c.requires.may in
+    ap (λ z. z.0.journal)
+    (gave_all g.M.Machine.means 0 _ _ _ c.args.value _ c.exchange.ensures.3 (ap rest o.1) c.store.ensures.2 may.0 may.1.history)
+    ∙ ap (λ (s : SeatValue _). s.view.journal) c.seat.view_is

@@ -6,7 +6,7 @@ use Rattle.live_table.proofs.Cuts.{read_none, reads_on, reads_it, reads_some, re
 use Rattle.live_table.proofs.table.LiveTable.ops_at.Goals as goal
 
 pub loop-i-init : goal.loop-i-init
-loop-i-init g c = (refl, omega arith, omega arith, λ ops o l. read_none o l c.new-ops.ensures)
+loop-i-init g c = (refl, omega arith, λ ops o l. read_none o l c.new-ops.ensures)
 
 pub row-requires-clause-table : goal.row-requires-clause-table
 row-requires-clause-table g c = ap (λ (s : SeatValue _). s.table) c.loop-i.invariant.0 ∙ c.requires.table
@@ -15,14 +15,14 @@ pub row-requires-clause-seen : goal.row-requires-clause-seen
 row-requires-clause-seen g c =
     let v = c.loop-i.invariant in
     let e = c.requires.ops in
-    let n = reads_on (v.3 e.0 e.1 e.2) (let a = c.loop-i-test.true in let b = c.from-i-end.ensures in omega arith) in
+    let n = reads_on (v.2 e.0 e.1 e.2) (let a = c.loop-i-test.true in let b = c.from-i-end.ensures in omega arith) in
     subst (λ (s : SeatValue _). c.args.at + c.loop-i.i < rows_of s.view.journal) (sym v.0) n.inside
 
 pub unreachable-requires : goal.unreachable-requires
 unreachable-requires g c =
     let v = c.loop-i.invariant in
     let e = c.requires.ops in
-    reads_some c.unpack.result (v.3 e.0 e.1 e.2)
+    reads_some c.unpack.result (v.2 e.0 e.1 e.2)
     (let a = c.loop-i-test.true in let b = c.from-i-end.ensures in omega arith)
     (c.row.ensures.word ∙ ap (λ (s : SeatValue _). get_or (words_of s.view.journal) (c.args.at + c.loop-i.i) 0) v.0)
     c.unpack.ensures.inverts c.in-None.is
@@ -30,23 +30,12 @@ unreachable-requires g c =
 pub returns-in_err-push-clause-same : goal.returns-in_err-push-clause-same
 returns-in_err-push-clause-same g c = loaded_more c.args.seat.now c.loop-i.invariant.0 c.row.ensures.loaded
 
-pub returns-in_err-push-clause-cost : goal.returns-in_err-push-clause-cost
-returns-in_err-push-clause-cost g c =
-    let cost = c.row.ensures.cost in
-    let so_far = c.loop-i.invariant.1 in
-    let inside = c.loop-i-test.true in
-    let end = c.from-i-end.ensures in
-    omega arith
-
 pub loop-i-preserved : goal.loop-i-preserved
 loop-i-preserved g c =
-    let v = c.loop-i.invariant in
-    let cost = c.row.ensures.cost in
-    let so_far = v.1 in (
+    let v = c.loop-i.invariant in (
       loaded_more c.args.seat.now v.0 c.row.ensures.loaded,
-      omega arith,
-      (let one = ap (λ (s : SeatValue _). s.view.loads) c.row.ensures.loaded in let all = v.2 in omega arith),
-      λ ops o l. reads_it c.unpack.result c.in-Some.op (v.3 ops o l)
+      (let one = ap (λ (s : SeatValue _). s.view.loads) c.row.ensures.loaded in let all = v.1 in omega arith),
+      λ ops o l. reads_it c.unpack.result c.in-Some.op (v.2 ops o l)
           (let a = c.loop-i-test.true in let b = c.from-i-end.ensures in omega arith)
           (c.row.ensures.word
           ∙ ap (λ (s : SeatValue _). get_or (words_of s.view.journal) (c.args.at + c.loop-i.i) 0) v.0)
@@ -57,34 +46,27 @@ pub returns-clause-same : goal.returns-clause-same
 returns-clause-same g c = c.loop-i.invariant.0
 
 pub returns-clause-ops : goal.returns-clause-ops
-returns-clause-ops g c = λ ops o l. read_all (c.loop-i.invariant.3 ops o l)
+returns-clause-ops g c = λ ops o l. read_all (c.loop-i.invariant.2 ops o l)
     (let a = c.loop-i-test.false in let b = c.from-i-end.ensures in omega arith)
-
-pub returns-clause-cost : goal.returns-clause-cost
-returns-clause-cost g c =
-    let so_far = c.loop-i.invariant.1 in
-    let end = c.from-i-end.ensures in
-    let within = c.loop-i.auto.i-end in
-    omega arith
 
 pub returns-in_err-push-clause-few : goal.returns-in_err-push-clause-few
 returns-in_err-push-clause-few g c =
     let one = ap (λ (s : SeatValue _). s.view.loads) c.row.ensures.loaded in
-    let all = c.loop-i.invariant.2 in
+    let all = c.loop-i.invariant.1 in
     let inside = c.loop-i-test.true in
     let end = c.from-i-end.ensures in
     (omega arith, omega arith)
 
 pub returns-clause-few : goal.returns-clause-few
 returns-clause-few g c =
-    let all = c.loop-i.invariant.2 in
+    let all = c.loop-i.invariant.1 in
     let end = c.from-i-end.ensures in
     let within = c.loop-i.auto.i-end in
     (omega arith, omega arith)
 
 pub returns-clause-loaded : goal.returns-clause-loaded
 returns-clause-loaded g c =
-    let all = c.loop-i.invariant.2 in
+    let all = c.loop-i.invariant.1 in
     let over = c.loop-i-test.false in
     let end = c.from-i-end.ensures in
     let within = c.loop-i.auto.i-end in

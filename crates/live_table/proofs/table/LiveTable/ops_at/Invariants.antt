@@ -6,7 +6,6 @@ use Rattle.live_table.proofs.Cuts.{ReadTo}
 use Rattle.live_table.proofs.table.LiveTable.ops_at.Given as goal
 
 abbrev pub invariant-loop-i : goal.invariant-loop-i
-invariant-loop-i g l = (l.seat ≡ with_loads l.seat.view.loads l.initial.seat) × (l.steps ≤ l.initial.steps + l.i)
-    × (l.seat.view.loads ≡ l.initial.seat.view.loads + l.i)
+invariant-loop-i g l = (l.seat ≡ with_loads l.seat.view.loads l.initial.seat) × (l.seat.view.loads ≡ l.initial.seat.view.loads + l.i)
     × ((ops : List RuleOp) → OpsAt (words_of l.initial.seat.view.journal) l.fn.at ops → l.fn.len ≡ length ops
     → ReadTo (words_of l.initial.seat.view.journal) l.fn.at l.fn.len l.i l.ops ops)

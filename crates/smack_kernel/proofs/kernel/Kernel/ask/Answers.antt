@@ -5,17 +5,17 @@ use Rattle.smack_kernel.proofs.Tasks.{sees_task, sees_does, loads_none, on_err}
 use Rattle.smack_kernel.proofs.kernel.Kernel.ask.Goals as goal
 
 pub returns-then-task-ge-MOST_CALLS-clause-loads : goal.returns-then-task-ge-MOST_CALLS-clause-loads
-returns-then-task-ge-MOST_CALLS-clause-loads g c = rw (← c.task.view_is) (loads_none c.task.invariant.0 c.args.steps.now)
+returns-then-task-ge-MOST_CALLS-clause-loads c = rw (← c.task.view_is) (loads_none c.task.invariant.0 c.task.inside.seat.view.loads)
 
 pub returns-in_err-look-clause-stays : goal.returns-in_err-look-clause-stays
-returns-in_err-look-clause-stays g c = on_err c.from_residual.result (rw (← c.task.view_is) (record {
+returns-in_err-look-clause-stays c = on_err c.from_residual.result (rw (← c.task.view_is) (record {
   does = sees_does c.task.inside.made c.task.inside.made c.task.invariant.0 c.look.ensures.same c.look.ensures.sees c.look.ensures.stands c.look.ensures.later;
   made = refl;
   creds = refl;
 }))
 
 pub returns-clause-asked : goal.returns-clause-asked
-returns-clause-asked g c = (
+returns-clause-asked c = (
   (let made = ap (λ (t : TaskValue). t.made) c.task.view_is in let few = c.if-task-ge-MOST_CALLS.false in omega arith),
   rw (← c.task.view_is) (record {
     does = sees_does
@@ -29,13 +29,13 @@ returns-clause-asked g c = (
 )
 
 pub invariant_of-task : goal.invariant_of-task
-invariant_of-task g c = (
+invariant_of-task c = (
   sees_task c.task.invariant.0 c.look.ensures.same c.look.ensures.sees c.look.ensures.stands,
   c.task.invariant.1,
 )
 
 pub invariant_of-task-2 : goal.invariant_of-task-2
-invariant_of-task-2 g c =
+invariant_of-task-2 c =
     let few = c.if-task-ge-MOST_CALLS.false in (
       sees_task c.task.invariant.0 c.look.ensures.same c.look.ensures.sees c.look.ensures.stands,
       omega arith,

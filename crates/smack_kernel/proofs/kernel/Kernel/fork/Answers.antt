@@ -8,7 +8,7 @@ use Rattle.smack_kernel.proofs.Forking.{forked_full}
 use Rattle.smack_kernel.proofs.kernel.Kernel.fork.Goals as goal
 
 pub returns-then-task-ge-MOST_CALLS-clause-loads : goal.returns-then-task-ge-MOST_CALLS-clause-loads
-returns-then-task-ge-MOST_CALLS-clause-loads g c = rw (← c.task.view_is) (loads_none c.task.invariant.0 c.args.steps.now)
+returns-then-task-ge-MOST_CALLS-clause-loads g c = rw (← c.task.view_is) (loads_none c.task.invariant.0 c.task.inside.seat.view.loads)
 
 pub returns-in-TrailFull-clause-forked : goal.returns-in-TrailFull-clause-forked
 returns-in-TrailFull-clause-forked g c =

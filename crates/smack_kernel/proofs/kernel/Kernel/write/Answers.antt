@@ -5,16 +5,16 @@ use Rattle.smack_kernel.specs.Tasks.{TaskValue, KernelValue, Loads, most_calls}
 use Rattle.file_spec.specs.declared.Compiled.TheVariants as Compiled
 use Rattle.world_spec.specs.declared.Call.TheVariants as Call
 use Rattle.world_spec.specs.declared.TaskCall.TheVariants as TaskCall
-use Rattle.smack_kernel.specs.Answers.{IsWritten, written_call}
+use Rattle.smack_kernel.specs.Answers.{IsWritten, TakesPen, written_call}
 use Rattle.smack_kernel.specs.declared.kernel.Written.{Written}
 use Rattle.smack_kernel.specs.declared.kernel.Written.TheVariants as Written
 use Rattle.smackfs.specs.Gives.{Faults}
 use Rattle.smack_kernel.proofs.Tasks.{loads_none}
-use Rattle.smack_kernel.proofs.Texts.{GoodCompiled, compiled_good, text_refused, own_written}
+use Rattle.smack_kernel.proofs.Texts.{GoodCompiled, compiled_good, text_refused, text_penless, own_written}
 use Rattle.smack_kernel.proofs.kernel.Kernel.write.Goals as goal
 
 pub returns-then-task-ge-MOST_CALLS-clause-loads : goal.returns-then-task-ge-MOST_CALLS-clause-loads
-returns-then-task-ge-MOST_CALLS-clause-loads g c = rw (← c.task.view_is) (loads_none c.task.invariant.0 c.args.steps.now)
+returns-then-task-ge-MOST_CALLS-clause-loads g c = rw (← c.task.view_is) (loads_none c.task.invariant.0 c.task.inside.seat.view.loads)
 
 pub write_ops-requires-clause-packed : goal.write_ops-requires-clause-packed
 write_ops-requires-clause-packed g c =
@@ -44,13 +44,27 @@ returns-in-Err-Refused-clause-written g c =
           (subst (λ (k : KernelValue). compiled k.labels file text ≡ Err fault) c.self.view_is is) (refl, refl),
     )
 
+pub returns-in-Err-Refused-clause-pens : goal.returns-in-Err-Refused-clause-pens
+returns-in-Err-Refused-clause-pens g c =
+    let v = c.args.task.now in
+    let file = c.args.file.now in
+    let text = c.args.text.now in
+    let fault = c.in-Err-Refused.fault in
+    let good = compiled_good c.self.inside.labels
+    (let a = c.len.ensures.len in let b = c.len.ensures.limit in omega arith) file text in
+    let is = subst (λ f. Faults f (compiled c.self.inside.labels file text)) c.in-Err-Refused.field-0-is
+    c.in-Err-Refused.ensures in
+    let answer = c.refuse_text.ensures.answer ∙ ap (Written.Refused v.version) c.in-Err-Refused.fault-is in
+    subst (λ (z : TaskValue × Written). TakesPen v z.0 z.1) (λ i. (sym c.refuse_text.ensures.refused i, sym answer i))
+    (text_penless v (record v { made = v.made + 1 }) v.version fault (subst GoodCompiled is good) refl)
+
 pub returns-in-Err-Refused-clause-loads : goal.returns-in-Err-Refused-clause-loads
 returns-in-Err-Refused-clause-loads g c =
-    subst (λ w. Loads c.args.task.now w c.args.steps.now c.args.steps.now) (sym c.refuse_text.ensures.refused)
-    (rw (← c.task.view_is) (loads_none c.task.invariant.0 c.args.steps.now))
+    subst (Loads c.args.task.now) (sym c.refuse_text.ensures.refused)
+    (rw (← c.task.view_is) (loads_none c.task.invariant.0 c.task.inside.seat.view.loads))
 
 pub returns-in-Err-Memory-clause-loads : goal.returns-in-Err-Memory-clause-loads
-returns-in-Err-Memory-clause-loads g c = rw (← c.task.view_is) (loads_none c.task.invariant.0 c.args.steps.now)
+returns-in-Err-Memory-clause-loads g c = rw (← c.task.view_is) (loads_none c.task.invariant.0 c.task.inside.seat.view.loads)
 
 pub returns-in-Ok-SelfRules-clause-written : goal.returns-in-Ok-SelfRules-clause-written
 returns-in-Ok-SelfRules-clause-written g c =

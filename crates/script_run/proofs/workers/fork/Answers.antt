@@ -3,7 +3,7 @@ use Rattle.smack_kernel.specs.Answers.{IsForked}
 use Rattle.script_run.specs.Stops.{IsCause}
 use Rattle.script_run.proofs.Working.{forked_some, forked_none}
 use Rattle.script_run.proofs.Stopping.{fork_cause}
-use Rattle.script_run.proofs.workers.fork_by.Goals as goal
+use Rattle.script_run.proofs.workers.fork.Goals as goal
 
 pub returns-in-Some-clause-forked : goal.returns-in-Some-clause-forked
 returns-in-Some-clause-forked g c = forked_some c.args.task.now c.fork.new.task c.in-Some.kid c.args.child c.in-Ok.called

@@ -4,14 +4,10 @@ use Rattle.task_runs.proofs.Calls.{ran_unchanged}
 use Rattle.script_acts.specs.Acts.{IsAct}
 use Rattle.script_run.specs.Stages.{script_of}
 use Rattle.script_run.proofs.Orders.{no_child}
-use Rattle.script_run.proofs.making.line_by.Goals as goal
+use Rattle.script_run.proofs.making.plain_line.Goals as goal
 
 pub returns-in-Wait-clause-ran : goal.returns-in-Wait-clause-ran
 returns-in-Wait-clause-ran g c = λ ls. ran_unchanged (script_of g.S.ScriptLines.told c.args.stage) (call_seen c.args.line.now ∷ ls) ls c.args.task.now c.args.task.now
-    c.args.asked.now c.args.asked.now c.requires.top refl
-
-pub returns-clause-ran : goal.returns-clause-ran
-returns-clause-ran g c = λ ls. ran_unchanged (script_of g.S.ScriptLines.told c.args.stage) (call_seen c.args.line.now ∷ ls) ls c.args.task.now c.args.task.now
     c.args.asked.now c.args.asked.now c.requires.top refl
 
 pub returns-in-Wait-clause-cause : goal.returns-in-Wait-clause-cause

@@ -1,4 +1,0 @@
-use Rattle.program_tests.proofs.kernel_calls.ask.Given as goal
-
-abbrev pub ghosts-ask_by : goal.ghosts-ask_by
-ghosts-ask_by g a = record { name = a.blank.name; parts = a.blank.parts }
