@@ -1,10 +1,16 @@
-use Rattle.std.specs.Prelude.{◌≤◌, ◌+◌, ℕ, List, [], ◌∷◌, ◌++◌}
+use Rattle.std.specs.Prelude.{◌≤◌, ◌+◌, ℕ, List, [], ◌∷◌, ◌++◌, false}
+use Rattle.atomic_table.specs.Seated.{TableId}
 use Rattle.smack_base.specs.declared.ids.LabelId.{LabelId}
 use Rattle.smack_base.specs.declared.rule_op.RuleOp.{RuleOp}
 use Rattle.smack_base.specs.declared.rule_op.RuleOp.TheVariants as RuleOp
 use Rattle.rules_spec.specs.AskedModes.{read, write}
 use Rattle.rules_spec.specs.declared.Batch.{Batch}
-use Rattle.smack_kernel.specs.Tasks.{TaskValue, LoadsOnce}
+use Rattle.script_spec.specs.Lines.{ScriptLine}
+use Rattle.record_spec.specs.declared.AskedLine.{AskedLine}
+use Rattle.smack_kernel.specs.Indexes.{version_rows}
+use Rattle.smack_kernel.specs.Tasks.{TaskValue, Starts, LoadsOnce, first_task}
+use Rattle.task_runs.specs.Scripts.{Scripted}
+use Rattle.task_runs.specs.Runs.{Ran}
 
 -- a batch of the first task
 abbrev pub published : ℕ → List RuleOp → Batch
@@ -24,6 +30,13 @@ at task journal version = record task { journal = journal; version = version }
 
 -- How many rows a task loads at most where memory is found.
 pub record WorkedLoads : Type 0 where
+  -- over all its lines, the first task of a kernel: those of the version that its rules have then taken
+  pub first : (s : Scripted) (ls rest : List ScriptLine) (table : TableId) (w : TaskValue) (x y : List AskedLine)
+      → Ran false s ls rest (first_task table) w x y → w.loads ≤ version_rows w.journal w.version
+  -- over all its lines, the child of a fork: those of that version, less those that it began with
+  pub child : (s : Scripted) (ls rest : List ScriptLine) (u c w : TaskValue) (x y : List AskedLine)
+      → Starts u c c.number → Ran false s ls rest c w x y
+      → w.loads + version_rows c.journal c.version ≤ version_rows w.journal w.version
   -- three texts of two lines each: two rows for the lines of each, and one for its head
   pub texts : (child : TaskValue) (s o : LabelId) (after : ℕ)
       → LoadsOnce (at child [] 0) (record (at child (three_texts s o) 3) { loads = after }) → after ≤ child.loads + 9

@@ -39,8 +39,8 @@ pub fn scripts_are_orderly()
     ensures { ScriptsAreOrderly }
 {}
 
-/// How many rows a task loads at most where memory is found, of three texts, of none, and of an empty
-/// batch.
+/// How many rows a task loads at most where memory is found: over all its lines, and of three texts,
+/// of none, and of an empty batch.
 pub fn worked_loads()
     ensures { WorkedLoads }
 {}

@@ -21,7 +21,7 @@ use Rattle.script_spec.specs.Tasks.{task_names}
 use Rattle.replay_spec.specs.Replays.{modes_in}
 use Rattle.legal_spec.specs.Lines.{IsCallOfLine}
 use Rattle.smack_kernel.specs.Histories.{child_of}
-use Rattle.smack_kernel.specs.Tasks.{TaskValue, Stays, Calls, Starts, Adopts, Answers, IsSound, most_calls}
+use Rattle.smack_kernel.specs.Tasks.{TaskValue, Stays, Calls, Starts, Adopts, Answers, IsSound, LoadsOnce, most_calls}
 use Rattle.smack_kernel.specs.Answers.{is_fork, IsCalled, IsTrailFull, IsSeqFull, IsWritten, IsAsked, IsForked as IsKernelForked}
 use Rattle.smack_kernel.specs.declared.turns.Entered.{Entered}
 use Rattle.smack_kernel.specs.declared.kernel.Called.{Called}
@@ -48,6 +48,7 @@ pub unforked : (s : Scripted) (l : ScriptLine) (ls rest : List ScriptLine) (v w 
     → Ran true s (l ∷ ls) rest v w x y
 unforked s l ls rest v w x y pid line f = ⊎_elim (λ st. ran_stopped s (l ∷ ls) rest v w x y st)
     (λ e. stopped false s (l ∷ ls) ls rest v w x y (went_entry false s l ls v w (Call.Task (TaskCall.Fork pid)) e.0 line e.1 e.2
+    (λ z. absurd (let x : ◌≡◌ {A = Bool} false true = z in cc))
     (λ z. absurd (let x : ◌≡◌ {A = Bool} false true = z in cc)))) f
 
 -- the place where the halves of a fork meet
@@ -61,15 +62,15 @@ module _ (s : Scripted) (p : ℕ) (child : Pid) (at until to last place : ℕ) (
     (asked mine_asked told after : List AskedLine) (a b stop : Bool) where
   pub fork_lines : at ≤ until → until ≤ to → to ≤ length s.lines → last ≡ length s.lines → lines_by child.0 (take at s.lines) ≡ []
       → ForksTask s l child.0 → Calls v u (Call.Task (TaskCall.Fork child)) r → r.reply ≡ Reply.Child c.number → Starts u c c.number
-      → Ran a s (segment p at until s.lines) [] u u' asked mine_asked → Ran b s (segment child.0 at last s.lines) [] c c' [] told
+      → LoadsOnce v u → Ran a s (segment p at until s.lines) [] u u' asked mine_asked → Ran b s (segment child.0 at last s.lines) [] c c' [] told
       → Met s child.0 a b stop u' c' w mine_asked told after until to place
       → (until < to → IsWaitAt s.names s.lines p child until to)
       → Ran stop s (l ∷ segment p at to s.lines) (segment p place to s.lines) v w asked after
-  fork_lines low mid high end first line call_ is_child st mine theirs met waits =
+  fork_lines low mid high end first line call_ is_child st once mine theirs met waits =
       subst (λ (x : List ScriptLine). Ran stop s (l ∷ x) (segment p place to s.lines) v w asked after)
       (sym (cut p at until to s.lines low mid high))
       (fork_ran s child.0 l (segment p at until s.lines) (segment p until to s.lines) (segment p place to s.lines) v u u' c c' w r asked
-      mine_asked told after until to place a b stop line call_ is_child st mine
+      mine_asked told after until to place a b stop line call_ is_child st once mine
       (subst (λ (x : List ScriptLine). Ran b s x [] c c' [] told)
       (ap (λ (n : ℕ). segment child.0 at n s.lines) end ∙ from_here child.0 at s.lines (omega arith) first) theirs) met on) where
         on : LinesOn s child.0 until to place (segment p until to s.lines) (segment p place to s.lines)
@@ -79,10 +80,11 @@ module _ (s : Scripted) (p : ℕ) (child : Pid) (at until to last place : ℕ) (
           line = λ lt e. let x = waits lt in (x.line, x.waits s.labels, x.is ∙ ap (λ (n : ℕ). x.line ∷ segment p n to s.lines) (sym e));
         }
 
-pub forked_some : (v w c : TaskValue) (pid : Pid) (called : Called) → IsKernelForked v w pid called (Some c) → IsForked v w pid (Ok c)
-forked_some v w c pid (Called.Entry r) f = (r, f.1, f.2, f.3)
-forked_some v w c pid (Called.TrailFull back) f = absurd f
-forked_some v w c pid (Called.SeqFull back) f = absurd f
+pub forked_some : (v w c : TaskValue) (pid : Pid) (called : Called) → IsKernelForked v w pid called (Some c) → LoadsOnce v w
+    → IsForked v w pid (Ok c)
+forked_some v w c pid (Called.Entry r) f once = (r, f.1, f.2, f.3, once)
+forked_some v w c pid (Called.TrailFull back) f once = absurd f
+forked_some v w c pid (Called.SeqFull back) f once = absurd f
 
 pub forked_none : (v w : TaskValue) (pid : Pid) (called : Called) (stop : Stop) → v.version ≤ length v.journal
     → IsKernelForked v w pid called None → IsForked v w pid (Err stop)
@@ -92,10 +94,10 @@ forked_none v w pid (Called.SeqFull back) stop top f = inl (subst (λ (u : TaskV
 
 module _ (s : Scripted) (l : ScriptLine) (ls : List ScriptLine) (v w : TaskValue) (x y : List AskedLine) where
   pub called_entry : (call : Call) (f : Called) (r : Entered) → IsCallOfLine s.labels s.names l call → is_fork call ≡ false
-      → f ≡ Called.Entry r → IsCalled v w call f → Ran false s (l ∷ ls) ls v w x x
-  called_entry call f r line plain e h =
+      → f ≡ Called.Entry r → IsCalled v w call f → LoadsOnce v w → Ran false s (l ∷ ls) ls v w x x
+  called_entry call f r line plain e h once =
       let h' : (v.made < most_calls) × Calls v w call r = subst (IsCalled v w call) e h in
-      ran_entry s l ls v w x call r line plain h'.1
+      ran_entry s l ls v w x call r line plain h'.1 once
 
   pub called_full : (call back : Call) (f : Called) → f ≡ Called.TrailFull back → IsCalled v w call f → Ran true s (l ∷ ls) ls v w x y
   called_full call back f e h =
@@ -113,17 +115,17 @@ module _ (s : Scripted) (l : ScriptLine) (ls : List ScriptLine) (v w : TaskValue
     is_written : (g : Written) → f ≡ g → IsWritten s.labels v w (word_in 1 l) l.text.bytes g
     is_written g e = subst (λ (z : List ℕ × Written). IsWritten s.labels v w z.0 l.text.bytes z.1) (λ i. (named i, e i)) h
 
-    pub written_batch : (version : ℕ) → IsSound v → f ≡ Written.Batch version → Ran false s (l ∷ ls) ls v w x x
-    written_batch version sound e = let h' = is_written (Written.Batch version) e in
-        ran_batch s l ls v w x h'.1.0 version top sound (verb, h'.1.1) h'.1.2
+    pub written_batch : (version : ℕ) → IsSound v → f ≡ Written.Batch version → LoadsOnce v w → Ran false s (l ∷ ls) ls v w x x
+    written_batch version sound e once = let h' = is_written (Written.Batch version) e in
+        ran_batch s l ls v w x h'.1.0 version top sound (verb, h'.1.1) h'.1.2 once
 
-    pub written_entry : (r : Entered) → f ≡ Written.Entry r → Ran false s (l ∷ ls) ls v w x x
-    written_entry r e = let h' = is_written (Written.Entry r) e in ran_written s l ls v w x h'.1.0 r verb h'.1.1 h'.1.2
+    pub written_entry : (r : Entered) → f ≡ Written.Entry r → LoadsOnce v w → Ran false s (l ∷ ls) ls v w x x
+    written_entry r e once = let h' = is_written (Written.Entry r) e in ran_written s l ls v w x h'.1.0 r verb h'.1.1 h'.1.2 once
 
     pub written_refused : (b : Bool) (version : ℕ) (fault : Refusal) → IsSound v → f ≡ Written.Refused version fault
-        → OnFalse b (y ≡ x ++ line_of v version (AskedWhat.Refused (word_in 1 l) fault) ∷ []) → Ran b s (l ∷ ls) ls v w x y
-    written_refused b version fault sound e more =
-        ran_refused s l ls v w x y b version fault verb top sound (is_written (Written.Refused version fault) e).1 more
+        → OnFalse b (y ≡ x ++ line_of v version (AskedWhat.Refused (word_in 1 l) fault) ∷ []) → LoadsOnce v w → Ran b s (l ∷ ls) ls v w x y
+    written_refused b version fault sound e more once =
+        ran_refused s l ls v w x y once b version fault verb top sound (is_written (Written.Refused version fault) e).1 more
 
     pub written_full : f ≡ Written.TrailFull → Ran true s (l ∷ ls) ls v w x y
     written_full e = ran_stopped s (l ∷ ls) ls v w x y (is_written Written.TrailFull e).0.1
@@ -134,11 +136,11 @@ module _ (s : Scripted) (l : ScriptLine) (ls : List ScriptLine) (v w : TaskValue
   pub asked_verdict : (subject object : LabelId) (m : Modes) (f : Asked) (b : Bool) (version : ℕ) (verdict : Verdict)
       → verb_in l ≡ Some Verb.Ask → id_of s.labels (word_in 1 l) ≡ Some subject → id_of s.labels (word_in 2 l) ≡ Some object
       → modes_in (word_in 3 l) ≡ Some m → f ≡ Asked.Verdict version verdict → IsAsked v w subject object m f
-      → OnFalse b (y ≡ x ++ line_of v version (AskedWhat.Ask verdict) ∷ []) → Ran b s (l ∷ ls) ls v w x y
-  asked_verdict subject object m f b version verdict verb su ob mo e h more =
+      → OnFalse b (y ≡ x ++ line_of v version (AskedWhat.Ask verdict) ∷ []) → LoadsOnce v w → Ran b s (l ∷ ls) ls v w x y
+  asked_verdict subject object m f b version verdict verb su ob mo e h more once =
       let h' : (v.made < most_calls) × Answers v w version × (verdict ≡ verdict_of_cases (ruling w.journal) subject object m) =
       subst (IsAsked v w subject object m) e h in
-      ran_asked s l ls v w x y b version subject object m verdict verb su ob mo h'.1 h'.2 more
+      ran_asked s l ls v w x y once b version subject object m verdict verb su ob mo h'.1 h'.2 more
 
   pub asked_seq : (subject object : LabelId) (m : Modes) (f : Asked) → v.version ≤ length v.journal → f ≡ Asked.SeqFull
       → IsAsked v w subject object m f → Ran true s (l ∷ ls) ls v w x y

@@ -8,7 +8,7 @@ use Rattle.script_spec.specs.Lines.{ScriptLine}
 use Rattle.record_spec.specs.declared.AskedLine.{AskedLine}
 use Rattle.record_spec.specs.declared.AskedWhat.TheVariants as AskedWhat
 use Rattle.smack_kernel.specs.Histories.{child_of}
-use Rattle.smack_kernel.specs.Tasks.{TaskValue, Stays, Calls, Starts}
+use Rattle.smack_kernel.specs.Tasks.{TaskValue, Stays, Calls, Starts, LoadsOnce}
 use Rattle.smack_kernel.specs.declared.turns.Entered.{Entered}
 use Rattle.task_runs.specs.Scripts.{Scripted}
 use Rattle.script_run.specs.declared.stage.Stage.{Stage}
@@ -18,9 +18,11 @@ use Rattle.script_run.specs.declared.making.Stop.{Stop}
 abbrev pub script_of : {S : Type 0} → (S → List ScriptLine) → Stage S → Scripted
 script_of told stage = record { labels = stage.kernel.now.labels; names = stage.names.now; lines = told stage.script.now }
 
--- what came of a fork: an entry and the child that it made; or no child, with an entry or with none
+-- what came of a fork: an entry and the child that it made, and no row was loaded twice; or no child, with an entry or
+-- with none
 abbrev pub IsForked : TaskValue → TaskValue → Pid → Result TaskValue Stop → Type 0
 IsForked v w pid (Ok c) = (r : Entered) × Calls v w (Call.Task (TaskCall.Fork pid)) r × (r.reply ≡ Reply.Child c.number) × Starts w c c.number
+    × LoadsOnce v w
 IsForked v w pid (Err stop) = Stays v w ⊎ ((r : Entered) × Calls v w (Call.Task (TaskCall.Fork pid)) r × (child_of r.reply ≡ None))
 
 -- what came of the line that waits for a child: it was counted and, where nothing stopped, is one line more; or nothing was done

@@ -19,7 +19,8 @@ use Rattle.record_spec.specs.declared.AskedWhat.TheVariants as AskedWhat
 use Rattle.legal_spec.specs.Lines.{IsBatchOfLine, IsCallOfLine, IsAskedOfLine}
 use Rattle.live_table.specs.Lists.{Begins}
 use Rattle.live_table.proofs.Lists.{begins_self, begins_length}
-use Rattle.smack_kernel.specs.Tasks.{TaskValue, IsSound, Does, Stays, Calls}
+use Rattle.smack_kernel.specs.Tasks.{TaskValue, IsSound, Does, Stays, Calls, LoadsOnce}
+use Rattle.smack_kernel.specs.Indexes.{version_rows}
 use Rattle.smack_kernel.specs.Answers.{Wrote, is_fork}
 use Rattle.smack_kernel.proofs.Worlds.{MakesNext, step_makes}
 use Rattle.world_spec.specs.Steps.{step}
@@ -33,8 +34,9 @@ use Rattle.task_runs.proofs.Growing.{stands_last, sees_grow, creds_grow}
 use Rattle.task_runs.proofs.Runs.{stopped}
 
 -- nothing was made
-pub went_none : (full : Bool) (s : Scripted) (ls : List ScriptLine) (v w : TaskValue) → Stays v w → Went full s ls ls v w
-went_none full s ls v w st = let d = st.does in let g = d.grows in record {
+pub went_none : (full : Bool) (s : Scripted) (ls : List ScriptLine) (v w : TaskValue) → Stays v w → (full ≡ true → LoadsOnce v w)
+    → Went full s ls ls v w
+went_none full s ls v w st once = let d = st.does in let g = d.grows in record {
   run = ends;
   table = d.table;
   number = d.number;
@@ -55,6 +57,7 @@ went_none full s ls v w st = let d = st.does in let g = d.grows in record {
   fresh = d.later;
   placed = begins_length g.history;
   within = d.within;
+  loads = once;
 }
 
 -- at most a call was counted
@@ -83,14 +86,14 @@ pub ran_none : (s : Scripted) (ls : List ScriptLine) (v : TaskValue) (x : List A
 unfolding went_none
 ran_none s ls v x top = record {
   left = ls;
-  went = went_none true s ls v v (stays_self v top);
+  went = went_none true s ls v v (stays_self v top) (λ _. le_refl (v.loads + version_rows v.journal v.version));
   on = λ _. refl;
   asked = λ _. sym (append-nil x);
 }
 
 -- a worker that stops before a line
 pub ran_stopped : (s : Scripted) (ls rest : List ScriptLine) (v w : TaskValue) (x y : List AskedLine) → Stays v w → Ran true s ls rest v w x y
-ran_stopped s ls rest v w x y st = stopped true s ls ls rest v w x y (went_none true s ls v w st)
+ran_stopped s ls rest v w x y st = stopped false s ls ls rest v w x y (went_none false s ls v w st (λ z. absurd (let z' : false ≡ true = z in cc)))
 
 -- and where nothing changed
 pub ran_unchanged : (s : Scripted) (ls rest : List ScriptLine) (v w : TaskValue) (x y : List AskedLine) → v.version ≤ length v.journal → w ≡ v
@@ -102,8 +105,8 @@ ran_unchanged s ls rest v w x y top e =
 pub went_one : (full : Bool) (s : Scripted) (l : ScriptLine) (ls : List ScriptLine) (v w : TaskValue) (d : Deed)
     → Does v w (batches_in (d ∷ [])) (entries_in (d ∷ [])) → w.made ≡ v.made + 1 → Fits s v.number (v.made + 1) d l → IsPlain full d
     → IsAt w.journal w.history v.number d → by_version v.version d w.version → by_place (length v.history) d (length w.history)
-    → Went full s (l ∷ ls) ls v w
-went_one full s l ls v w d does_ made fits plain at fresh placed = let g = does_.grows in record {
+    → (full ≡ true → LoadsOnce v w) → Went full s (l ∷ ls) ls v w
+went_one full s l ls v w d does_ made fits plain at fresh placed once = let g = does_.grows in record {
   run = does d ends;
   table = does_.table;
   number = does_.number;
@@ -124,19 +127,20 @@ went_one full s l ls v w d does_ made fits plain at fresh placed = let g = does_
   fresh = (w.version, fresh, le_refl w.version);
   placed = (length w.history, placed, le_refl (length w.history));
   within = does_.within;
+  loads = once;
 }
 
 -- a line that became an entry and made no task
 pub went_entry : (full : Bool) (s : Scripted) (l : ScriptLine) (ls : List ScriptLine) (v w : TaskValue) (call : Call) (r : Entered)
     → IsCallOfLine s.labels s.names l call → Calls v w call r → child_of r.reply ≡ None → (full ≡ true → is_fork call ≡ false)
-    → Went full s (l ∷ ls) ls v w
-went_entry full s l ls v w call r line c none other =
+    → (full ≡ true → LoadsOnce v w) → Went full s (l ∷ ls) ls v w
+went_entry full s l ls v w call r line c none other once =
     let e = c.enters in
     let x : Entry = entry_of v.number (v.made + 1) call r.version r.checks r.reply in
     went_one full s l ls v w (entered x (length e.before)) c.does c.made (refl, refl, line) (none, other)
     (stands_last w.history e.before x e.is)
     (let a = c.does.later in let b = c.now in (omega arith, omega arith))
-    (let a = begins_length e.more in let b = ap length e.is in let d = length-append e.before (x ∷ []) in (omega arith, omega arith))
+    (let a = begins_length e.more in let b = ap length e.is in let d = length-append e.before (x ∷ []) in (omega arith, omega arith)) once
 
 -- no call but a fork makes a task
 no_child : (v w : TaskValue) (call : Call) (r : Entered) → is_fork call ≡ false → Calls v w call r → child_of r.reply ≡ None
@@ -169,8 +173,9 @@ sees_before v w j h s =
 
 -- a line that became a batch
 pub went_batch : (full : Bool) (s : Scripted) (l : ScriptLine) (ls : List ScriptLine) (v w : TaskValue) (ops : List RuleOp) (version : ℕ)
-    → v.version ≤ length v.journal → IsSound v → IsBatchOfLine s.labels l ops → Wrote v w ops version → Went full s (l ∷ ls) ls v w
-went_batch full s l ls v w ops version top sound line c =
+    → v.version ≤ length v.journal → IsSound v → IsBatchOfLine s.labels l ops → Wrote v w ops version → LoadsOnce v w
+    → Went full s (l ∷ ls) ls v w
+went_batch full s l ls v w ops version top sound line c once =
     let p = c.publishes in
     let b : Batch = batch_of v.number (v.made + 1) ops in
     let n : ℕ = length p.before in
@@ -182,7 +187,7 @@ went_batch full s l ls v w ops version top sound line c =
     (ap (take n) p.is ∙ (take-append-le n p.before (b ∷ []) (le_refl n) ∙ take_all n p.before (le_refl n))) in
     went_one full s l ls v w (batched n b (length v.history)) c.does c.made (refl, refl, line) tt
     (stands_last w.journal p.before b p.is, sees.0, (λ i. is_effective (sees.1 i) Cap.MacAdmin (rule i)) ∙ p.effective)
-    (let y = c.whole in (omega arith, omega arith)) (le_refl (length v.history), begins_length g.history)
+    (let y = c.whole in (omega arith, omega arith)) (le_refl (length v.history), begins_length g.history) (λ _. once)
 
 abbrev pub line_of : TaskValue → ℕ → AskedWhat → AskedLine
 line_of v version what = record { task = v.number; seq = v.made + 1; version = version; what = what }
@@ -195,31 +200,34 @@ seen_now a b (AskedWhat.Wait pid) l = tt
 -- a line that became a line of neither kind
 pub went_answer : (full : Bool) (s : Scripted) (l : ScriptLine) (ls : List ScriptLine) (v w : TaskValue) (version : ℕ) (what : AskedWhat)
     → Does v w [] [] → w.made ≡ v.made + 1 → version ≡ w.version → IsAskedOfLine s.labels s.names l what → IsNoWait what
-    → IsTrueAnswer w.journal w.history v.number (length v.history) version what → Went full s (l ∷ ls) ls v w
-went_answer full s l ls v w version what d made now line plain answer =
+    → IsTrueAnswer w.journal w.history v.number (length v.history) version what → LoadsOnce v w → Went full s (l ∷ ls) ls v w
+went_answer full s l ls v w version what d made now line plain answer once =
     went_one full s l ls v w (answered (line_of v version what) (length v.history)) d made (refl, refl, line) plain
     (let x = d.within in omega arith, answer)
     (let x = d.later in (omega arith, omega arith))
     (begins_length d.grows.history, seen_now (length v.history) (length w.history) what (begins_length d.grows.history))
+    (λ _. once)
 
 -- lines that came to be: an entry
 pub ran_entry : (s : Scripted) (l : ScriptLine) (ls : List ScriptLine) (v w : TaskValue) (x : List AskedLine) (call : Call) (r : Entered)
-    → IsCallOfLine s.labels s.names l call → is_fork call ≡ false → Calls v w call r → Ran false s (l ∷ ls) ls v w x x
+    → IsCallOfLine s.labels s.names l call → is_fork call ≡ false → Calls v w call r → LoadsOnce v w
+    → Ran false s (l ∷ ls) ls v w x x
 unfolding went_entry went_one
-ran_entry s l ls v w x call r line plain c = record {
+ran_entry s l ls v w x call r line plain c once = record {
   left = ls;
-  went = went_entry true s l ls v w call r line c (no_child v w call r plain c) (λ _. plain);
+  went = went_entry true s l ls v w call r line c (no_child v w call r plain c) (λ _. plain) (λ _. once);
   on = λ _. refl;
   asked = λ _. sym (append-nil x);
 }
 
 -- a batch
 pub ran_batch : (s : Scripted) (l : ScriptLine) (ls : List ScriptLine) (v w : TaskValue) (x : List AskedLine) (ops : List RuleOp) (version : ℕ)
-    → v.version ≤ length v.journal → IsSound v → IsBatchOfLine s.labels l ops → Wrote v w ops version → Ran false s (l ∷ ls) ls v w x x
+    → v.version ≤ length v.journal → IsSound v → IsBatchOfLine s.labels l ops → Wrote v w ops version → LoadsOnce v w
+    → Ran false s (l ∷ ls) ls v w x x
 unfolding went_batch went_one
-ran_batch s l ls v w x ops version top sound line c = record {
+ran_batch s l ls v w x ops version top sound line c once = record {
   left = ls;
-  went = went_batch true s l ls v w ops version top sound line c;
+  went = went_batch true s l ls v w ops version top sound line c once;
   on = λ _. refl;
   asked = λ _. sym (append-nil x);
 }
@@ -228,13 +236,13 @@ ran_batch s l ls v w x ops version top sound line c = record {
 pub ran_answer : (b : Bool) (s : Scripted) (l : ScriptLine) (ls : List ScriptLine) (v w : TaskValue) (x y : List AskedLine) (version : ℕ)
     (what : AskedWhat) → Does v w [] [] → w.made ≡ v.made + 1 → version ≡ w.version → IsAskedOfLine s.labels s.names l what → IsNoWait what
     → IsTrueAnswer w.journal w.history v.number (length v.history) version what → OnFalse b (y ≡ x ++ line_of v version what ∷ [])
-    → Ran b s (l ∷ ls) ls v w x y
+    → LoadsOnce v w → Ran b s (l ∷ ls) ls v w x y
 unfolding went_answer went_one
-ran_answer true s l ls v w x y version what d made now line plain answer more =
-    stopped true s (l ∷ ls) ls ls v w x y (went_answer true s l ls v w version what d made now line plain answer)
-ran_answer false s l ls v w x y version what d made now line plain answer more = record {
+ran_answer true s l ls v w x y version what d made now line plain answer more once =
+    stopped true s (l ∷ ls) ls ls v w x y (went_answer true s l ls v w version what d made now line plain answer once)
+ran_answer false s l ls v w x y version what d made now line plain answer more once = record {
   left = ls;
-  went = went_answer true s l ls v w version what d made now line plain answer;
+  went = went_answer true s l ls v w version what d made now line plain answer once;
   on = λ _. refl;
   asked = λ _. more;
 }

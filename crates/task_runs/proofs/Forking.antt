@@ -1,5 +1,7 @@
 -- A fork: what the task and its child then did side by side, the adoption, and the wait.
-use Rattle.std.proofs.Common.{◌≡◌, ℕ, ◌+◌, ◌≤◌, ◌&&◌, List, [], ◌∷◌, ◌++◌, length, Bool, true, false, sym, refl, ap, ◌∙◌, subst, append_assoc, append-nil, arith, length-append, Option, Some, None, ⊎_elim, le_refl}
+use Rattle.std.proofs.Common.{◌≡◌, ℕ, ◌+◌, ◌≤◌, ◌&&◌, List, [], ◌∷◌, ◌++◌, length, Bool, true, false, sym, refl, ap, ◌∙◌, subst, append_assoc, append-nil, arith, length-append, Option, Some, None, ⊎_elim, le_refl, take, drop}
+use Rattle.std.proofs.lemmas.List.{take-take, take-append-le, take-append-drop}
+use Rattle.rules_spec.specs.declared.Batch.{Batch}
 use Rattle.world_spec.specs.declared.Call.TheVariants as Call
 use Rattle.world_spec.specs.declared.TaskCall.TheVariants as TaskCall
 use Rattle.world_spec.specs.declared.Reply.TheVariants as Reply
@@ -8,10 +10,11 @@ use Rattle.script_spec.specs.Lines.{ScriptLine}
 use Rattle.record_spec.specs.declared.AskedLine.{AskedLine}
 use Rattle.record_spec.specs.declared.AskedWhat.TheVariants as AskedWhat
 use Rattle.legal_spec.specs.Calls.{Stands}
-use Rattle.live_table.specs.Lists.{Has, here, there}
+use Rattle.live_table.specs.Lists.{Begins, Has, here, there}
 use Rattle.live_table.specs.Batches.{batches_by}
-use Rattle.live_table.proofs.Lists.{has_left, has_right, has_either, begins_trans, begins_length}
-use Rattle.smack_kernel.specs.Tasks.{TaskValue, Calls, Starts, Adopts}
+use Rattle.live_table.proofs.Lists.{has_left, has_right, has_either, begins_trans, begins_length, rows_begin}
+use Rattle.smack_kernel.specs.Tasks.{TaskValue, Calls, Starts, Adopts, LoadsOnce}
+use Rattle.smack_kernel.specs.Indexes.{version_rows}
 use Rattle.smack_kernel.specs.Growth.{entry_of}
 use Rattle.smack_kernel.specs.declared.turns.Entered.{Entered}
 use Rattle.task_runs.specs.Scripts.{Scripted, ForksTask, WaitsFor, lines_by}
@@ -55,6 +58,15 @@ kids-theirs true g s r k = k
 kids-theirs false true s r k = kids-any false s r k
 kids-theirs false false s r k = k
 
+-- a later version of a longer journal has no fewer rows
+pub rows_grow : {j j' : List Batch} (n m : ℕ) → Begins j' j → n ≤ length j → n ≤ m → version_rows j n ≤ version_rows j' m
+rows_grow {j} {j'} n m b within later =
+    let front : take n (take m j') ≡ take n j = take-take n m j' later ∙ (ap (take n) b.is ∙ take-append-le n j b.rest within) in
+    rows_begin {xs = take m j'} {ys = take n j} record {
+      rest = drop n (take m j');
+      is = sym (take-append-drop n (take m j')) ∙ ap (λ l. l ++ drop n (take m j')) front;
+    }
+
 pub both : (f g : Bool) → (f && g) ≡ true → (f ≡ true) × (g ≡ true)
 both true g e = (refl, e)
 both false g e = absurd (let e' : false ≡ true = e in cc)
@@ -62,9 +74,9 @@ both false g e = absurd (let e' : false ≡ true = e in cc)
 module _ (s : Scripted) (pid : ℕ) (ls mid rest left : List ScriptLine) (v u u' c c' w : TaskValue) (r : Entered) (wait : Option AskedLine)
     (made' : ℕ) where
   unfoldable pub went_fork : (f g : Bool) (l : ScriptLine) → ForksTask s l pid → Calls v u (Call.Task (TaskCall.Fork (record { 0 = pid }))) r → r.reply ≡ Reply.Child c.number
-      → Starts u c c.number → Went f s ls mid u u' → Went g s (lines_by pid s.lines) left c c' → (g ≡ true → left ≡ []) → Adopts u' c' w
+      → Starts u c c.number → LoadsOnce v u → Went f s ls mid u u' → Went g s (lines_by pid s.lines) left c c' → (g ≡ true → left ≡ []) → Adopts u' c' w
       → Waits s pid w wait made' mid rest → Went (f && g) s (l ∷ ls) rest v (record w { made = made' })
-  went_fork f g l line call_ is_child st mine theirs done adopted wt = record {
+  went_fork f g l line call_ is_child st once mine theirs done adopted wt = record {
     run = forks e n pid c.number mine.run theirs.run wait ends;
     table = adopted.table ∙ (mine.table ∙ call_.does.table);
     number = adopted.number ∙ nu;
@@ -164,6 +176,12 @@ module _ (s : Scripted) (pid : ℕ) (ls mid rest left : List ScriptLine) (v u u'
       le_refl (length w.history),
     );
     within = adopted.within;
+    loads = λ z.
+        let a : u.loads + version_rows v.journal v.version ≤ v.loads + version_rows u.journal u.version = once in
+        let b : u'.loads + version_rows u.journal u.version ≤ u.loads + version_rows u'.journal u'.version = mine.loads (both f g z).0 in
+        let d : w.loads ≡ u'.loads = adopted.counts.loads in
+        let e : version_rows u'.journal u'.version ≤ version_rows w.journal w.version =
+        rows_grow u'.version w.version adopted.journal mine.within adopted.version in omega arith;
   } where
     e : Entry
     e = entry_of v.number (v.made + 1) (Call.Task (TaskCall.Fork (record { 0 = pid }))) r.version r.checks r.reply

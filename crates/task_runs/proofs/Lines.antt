@@ -30,7 +30,7 @@ use Rattle.legal_spec.specs.Lines.{IsAskedOfLine}
 use Rattle.live_table.specs.Batches.{words_of, rows_of as rows_in}
 use Rattle.rule_word.specs.Layout.{op_word, head_word}
 use Rattle.live_table.proofs.Lists.{long_map}
-use Rattle.smack_kernel.specs.Tasks.{TaskValue, IsSound, Does, Answers, Calls}
+use Rattle.smack_kernel.specs.Tasks.{TaskValue, IsSound, Does, Answers, Calls, LoadsOnce}
 use Rattle.smack_kernel.specs.Answers.{is_fork, written_call, IsRefused, IsTextRefused}
 use Rattle.smack_kernel.specs.declared.turns.Entered.{Entered}
 use Rattle.task_runs.specs.Scripts.{Scripted}
@@ -50,7 +50,7 @@ rows_count (b ∷ bs) = one_more (head_word b.task b.seq (length b.ops)) (map op
 whole_version : (j : List Batch) (n : ℕ) → n ≡ length j → take n j ≡ j
 whole_version j n e = take_all n j (omega (arith, e))
 
-module _ (s : Scripted) (l : ScriptLine) (ls : List ScriptLine) (v w : TaskValue) (x y : List AskedLine) where
+module _ (s : Scripted) (l : ScriptLine) (ls : List ScriptLine) (v w : TaskValue) (x y : List AskedLine) (once : LoadsOnce v w) where
   -- a question was answered
   pub ran_asked : (b : Bool) (version : ℕ) (subject object : LabelId) (m : Modes) (verdict : Verdict) → verb_in l ≡ Some Verb.Ask
       → id_of s.labels (word_in 1 l) ≡ Some subject → id_of s.labels (word_in 2 l) ≡ Some object → modes_in (word_in 3 l) ≡ Some m
@@ -61,7 +61,7 @@ module _ (s : Scripted) (l : ScriptLine) (ls : List ScriptLine) (v w : TaskValue
       (subst (λ (d : Verdict). IsAskedOfLine s.labels s.names l (AskedWhat.Ask d)) (sym is) (verb, su, ob, mo)) tt
       (subst (λ (d : Verdict). d ≡ verdict_of_cases (version_of w.journal version) d.subject d.object d.modes) (sym is)
       (ap (λ (j : List Batch). verdict_of_cases (ruling j) subject object m) (sym (whole_version w.journal version (a.now ∙ a.whole)))))
-      more
+      more once
 
   text_does : (version : ℕ) → v.version ≤ length v.journal → IsTextRefused v w version → Does v w [] []
   text_does version top t = subst (λ (u : TaskValue). Does v u [] []) (sym t.0) (does_count v (v.made + 1) top)
@@ -75,7 +75,7 @@ module _ (s : Scripted) (l : ScriptLine) (ls : List ScriptLine) (v w : TaskValue
       → Ran b s (l ∷ ls) ls v w x y
   text_refused b version fault top t line answer more =
       ran_answer b s l ls v w x y version (AskedWhat.Refused (word_in 1 l) fault) (text_does version top t) (ap (λ (u : TaskValue). u.made) t.0)
-      (t.1 ∙ sym (ap (λ (u : TaskValue). u.version) t.0)) line tt answer more
+      (t.1 ∙ sym (ap (λ (u : TaskValue). u.version) t.0)) line tt answer more once
 
   -- a text was refused
   pub ran_refused : (b : Bool) (version : ℕ) (fault : Refusal) → verb_in l ≡ Some Verb.Write → v.version ≤ length v.journal → IsSound v
@@ -89,11 +89,11 @@ module _ (s : Scripted) (l : ScriptLine) (ls : List ScriptLine) (v w : TaskValue
       let g = a.does.grows in
       let sees = sees_before v w g.journal g.history sound in
       ran_answer b s l ls v w x y version (AskedWhat.Refused (word_in 1 l) Refusal.NotPrivileged) a.does a.made a.now (verb, refl, (r.0, r.1)) tt
-      (sees.0, (λ i. is_effective (sees.1 i) Cap.MacAdmin (ruling (whole_version w.journal version (a.now ∙ a.whole) i))) ∙ r.3) more
+      (sees.0, (λ i. is_effective (sees.1 i) Cap.MacAdmin (ruling (whole_version w.journal version (a.now ∙ a.whole) i))) ∙ r.3) more once
   ran_refused b version (Refusal.JournalFull rows) verb top sound r more =
       let a = r.2 in
       ran_answer b s l ls v w x y version (AskedWhat.Refused (word_in 1 l) (Refusal.JournalFull rows)) a.does a.made a.now (verb, refl, (r.0, r.1, r.5)) tt
-      (r.4 ∙ (rows_count w.journal ∙ ap rows_of (sym (whole_version w.journal version (a.now ∙ a.whole))))) more
+      (r.4 ∙ (rows_count w.journal ∙ ap rows_of (sym (whole_version w.journal version (a.now ∙ a.whole))))) more once
 
 same_call : (c : Result Compiled Refusal) → written_call c ≡ of_one (file_call c) (λ call. Call.Task call)
 same_call (Ok (Compiled.Rules ops)) = refl
@@ -117,7 +117,7 @@ plain_call c call e = ap is_fork_in (sym e) ∙ none_forks c
 -- a text that became an object call
 pub ran_written : (s : Scripted) (l : ScriptLine) (ls : List ScriptLine) (v w : TaskValue) (x : List AskedLine) (call : Call) (r : Entered)
     → verb_in l ≡ Some Verb.Write → written_call (compiled s.labels (word_in 1 l) l.text.bytes) ≡ Some call → Calls v w call r
-    → Ran false s (l ∷ ls) ls v w x x
-ran_written s l ls v w x call r verb is c = ran_entry s l ls v w x call r
+    → LoadsOnce v w → Ran false s (l ∷ ls) ls v w x x
+ran_written s l ls v w x call r verb is c once = ran_entry s l ls v w x call r
     (ap (call_by s.labels s.names l) verb ∙ (sym (same_call (compiled s.labels (word_in 1 l) l.text.bytes)) ∙ is))
-    (plain_call (compiled s.labels (word_in 1 l) l.text.bytes) call is) c
+    (plain_call (compiled s.labels (word_in 1 l) l.text.bytes) call is) c once

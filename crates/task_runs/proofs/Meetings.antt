@@ -5,7 +5,7 @@ use Rattle.world_spec.specs.declared.TaskCall.TheVariants as TaskCall
 use Rattle.world_spec.specs.declared.Reply.TheVariants as Reply
 use Rattle.script_spec.specs.Lines.{ScriptLine}
 use Rattle.record_spec.specs.declared.AskedLine.{AskedLine}
-use Rattle.smack_kernel.specs.Tasks.{TaskValue, Calls, Starts, Adopts}
+use Rattle.smack_kernel.specs.Tasks.{TaskValue, Calls, Starts, Adopts, LoadsOnce}
 use Rattle.smack_kernel.specs.declared.turns.Entered.{Entered}
 use Rattle.task_runs.specs.Scripts.{Scripted, ForksTask, WaitsFor, lines_by}
 use Rattle.task_runs.specs.Deeds.{FitsTo}
@@ -69,7 +69,7 @@ fits-more s k n (d ∷ ds) (l ∷ ls) left more f = (f.0, fits-more s k (n + 1) 
 pub went_more : (full : Bool) (s : Scripted) (ls left more : List ScriptLine) (v w : TaskValue) → Went full s ls left v w
     → Went full s (ls ++ more) (left ++ more) v w
 went_more full s ls left more v w a = over_lines full full s ls left (ls ++ more) (left ++ more) v w a a.kids
-    (fits-more s v.number (v.made + 1) (own a.run) ls left more a.fits)
+    (fits-more s v.number (v.made + 1) (own a.run) ls left more a.fits) (λ z. z)
 
 all_asked : (q a b w p t : List AskedLine) → p ≡ q ++ a → t ≡ b → (p ++ t) ++ w ≡ q ++ ((a ++ b) ++ (w ++ []))
 all_asked q a b w p t e f = (λ i. (e i ++ f i) ++ w) ∙ (ap (λ l. l ++ w) (append_assoc q a b)
@@ -89,11 +89,11 @@ pub record LinesOn (s : Scripted) (pid until to at : ℕ) (more rest : List Scri
 module _ (s : Scripted) (pid : ℕ) (l : ScriptLine) (ls more rest : List ScriptLine) (v u u' c c' w : TaskValue) (r : Entered)
     (asked mine_asked told after : List AskedLine) (until to at : ℕ) where
   pub fork_ran : (a b stop : Bool) → ForksTask s l pid → Calls v u (Call.Task (TaskCall.Fork (record { 0 = pid }))) r → r.reply ≡ Reply.Child c.number
-      → Starts u c c.number → Ran a s ls [] u u' asked mine_asked → Ran b s (lines_by pid s.lines) [] c c' [] told
+      → Starts u c c.number → LoadsOnce v u → Ran a s ls [] u u' asked mine_asked → Ran b s (lines_by pid s.lines) [] c c' [] told
       → Met s pid a b stop u' c' w mine_asked told after until to at → LinesOn s pid until to at more rest
       → Ran stop s (l ∷ (ls ++ more)) rest v w asked after
   unfolding went_fork over_lines
-  fork_ran a b stop line call_ is_child st mine theirs met on = subst (λ x. Ran stop s (l ∷ (ls ++ more)) rest v x asked after) (sym met.is)
+  fork_ran a b stop line call_ is_child st once mine theirs met on = subst (λ x. Ran stop s (l ∷ (ls ++ more)) rest v x asked after) (sym met.is)
       (finish met.wait refl) where
         x' : TaskValue
         x' = record met.middle { made = met.made' }
@@ -101,10 +101,10 @@ module _ (s : Scripted) (pid : ℕ) (l : ScriptLine) (ls more rest : List Script
         whole : (wl : ScriptLine) (left' : List ScriptLine) → IsLineOf met.wait s wl pid → mine.left ++ more ≡ awaited met.wait wl left'
             → Went (not a && not b) s (l ∷ (ls ++ more)) left' v x'
         whole wl left' is e = went_fork s pid (ls ++ more) (awaited met.wait wl left') left' theirs.left v u u' c c' met.middle r met.wait met.made'
-            (not a) (not b) l line call_ is_child st
+            (not a) (not b) l line call_ is_child st once
             (over_lines (not a) (not a) s ls mine.left (ls ++ more) (awaited met.wait wl left') u u' mine.went mine.went.kids
             (subst (FitsTo s u.number (u.made + 1) (own mine.went.run) (ls ++ more)) e
-            (fits-more s u.number (u.made + 1) (own mine.went.run) ls mine.left more mine.went.fits)))
+            (fits-more s u.number (u.made + 1) (own mine.went.run) ls mine.left more mine.went.fits)) (λ z. z))
             theirs.went (λ z. theirs.on (not_not b z)) met.adopted (met.waits wl is left')
 
         by_stop : (z : Bool) → stop ≡ z → (wl : ScriptLine) (left' : List ScriptLine) → IsLineOf met.wait s wl pid
@@ -116,7 +116,8 @@ module _ (s : Scripted) (pid : ℕ) (l : ScriptLine) (ls more rest : List Script
             let g = whole wl left' is e2 in record {
               left = left';
               went = over_lines (not a && not b) true s (l ∷ (ls ++ more)) left' (l ∷ (ls ++ more)) left' v x' g
-                  (subst (λ (x : Bool). Kids x s g.run) (λ i. not (t.0 i) && not (t.1 i)) g.kids) g.fits;
+                  (subst (λ (x : Bool). Kids x s g.run) (λ i. not (t.0 i) && not (t.1 i)) g.kids) g.fits
+                  (λ _ i. not (t.0 i) && not (t.1 i));
               on = λ _. t.2;
               asked = λ _. met.asked_all e ∙ all_asked asked (asked_of mine.went.run) (asked_of theirs.went.run) (waited met.wait) mine_asked told
                   (mine.asked t.0) (theirs.asked t.1);

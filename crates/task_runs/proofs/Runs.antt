@@ -10,6 +10,7 @@ use Rattle.live_table.specs.Lists.{Has, here, there}
 use Rattle.live_table.specs.Batches.{batches_by}
 use Rattle.live_table.proofs.Lists.{has_left, has_right, has_either, begins_trans}
 use Rattle.smack_kernel.specs.Tasks.{TaskValue}
+use Rattle.smack_kernel.specs.Indexes.{version_rows}
 use Rattle.task_runs.specs.Scripts.{Scripted}
 use Rattle.task_runs.specs.Deeds.{entries_of, Deed, entered, batched, answered, asked_in, entries_in, batches_in, AllAt, FitsTo, IsPlain, by_version, by_place, IsSeen}
 use Rattle.task_runs.specs.Runs.{Run, ends, does, forks, waited, wait_deeds, own, numbers, asked_of, AllMade, Over, Kids, Distinct, Went, Ran}
@@ -193,6 +194,8 @@ went_then full s ls mid rest v u w a b = record {
   fresh = over_then by_version version_clock v.version a.run b.run u.version w.version a.fresh b.fresh;
   placed = over_then by_place place_clock (length v.history) a.run b.run (length u.history) (length w.history) a.placed b.placed;
   within = b.within;
+  loads = λ z. let x : u.loads + version_rows v.journal v.version ≤ v.loads + version_rows u.journal u.version = a.loads refl in
+      let y : w.loads + version_rows u.journal u.version ≤ u.loads + version_rows w.journal w.version = b.loads z in omega arith;
 } where
   owns : own (then a.run b.run) ≡ own a.run ++ own b.run
   owns = own-then a.run b.run
@@ -208,8 +211,9 @@ went_then full s ls mid rest v u w a b = record {
 
 -- the same calls, over other lines
 unfoldable pub over_lines : (full full' : Bool) (s : Scripted) (ls left ls' left' : List ScriptLine) (v w : TaskValue) (a : Went full s ls left v w)
-    → Kids full' s a.run → FitsTo s v.number (v.made + 1) (own a.run) ls' left' → Went full' s ls' left' v w
-over_lines full full' s ls left ls' left' v w a kids fits = record {
+    → Kids full' s a.run → FitsTo s v.number (v.made + 1) (own a.run) ls' left' → (full' ≡ true → full ≡ true)
+    → Went full' s ls' left' v w
+over_lines full full' s ls left ls' left' v w a kids fits as_full = record {
   run = a.run;
   table = a.table;
   number = a.number;
@@ -230,18 +234,20 @@ over_lines full full' s ls left ls' left' v w a kids fits = record {
   fresh = a.fresh;
   placed = a.placed;
   within = a.within;
+  loads = λ z. a.loads (as_full z);
 }
 
 -- all lines up to the rest
 pub up_to : (full : Bool) (s : Scripted) (ls left rest : List ScriptLine) (v w : TaskValue) → left ≡ rest → Went full s ls left v w
     → Went full s ls rest v w
 up_to full s ls left rest v w e a = over_lines full full s ls left ls rest v w a a.kids
-    (subst (FitsTo s v.number (v.made + 1) (own a.run) ls) e a.fits)
+    (subst (FitsTo s v.number (v.made + 1) (own a.run) ls) e a.fits) (λ z. z)
 
 -- a worker that stops may have done less
 pub weaker : (full : Bool) (s : Scripted) (ls left : List ScriptLine) (v w : TaskValue) → Went full s ls left v w → Went false s ls left v w
 weaker false s ls left v w a = a
 weaker true s ls left v w a = over_lines true false s ls left ls left v w a (kids-any false s a.run a.kids) a.fits
+    (λ z. absurd (let z' : false ≡ true = z in cc))
 
 -- a worker that stops promises no more
 pub stopped : (full : Bool) (s : Scripted) (ls left rest : List ScriptLine) (v w : TaskValue) (x y : List AskedLine) → Went full s ls left v w

@@ -9,7 +9,7 @@ use Rattle.record_spec.specs.declared.AskedLine.{AskedLine}
 use Rattle.record_spec.specs.declared.AskedWhat.TheVariants as AskedWhat
 use Rattle.live_table.specs.Lists.{Begins, Has}
 use Rattle.live_table.specs.Batches.{batches_by}
-use Rattle.smack_kernel.specs.Tasks.{TaskValue}
+use Rattle.smack_kernel.specs.Tasks.{TaskValue, LoadsOnce}
 use Rattle.task_runs.specs.Scripts.{Scripted, lines_by}
 use Rattle.task_runs.specs.Deeds.{entries_of, Deed, entered, answered, asked_in, entries_in, batches_in, AllAt, Made, FitsTo, IsPlain, by_version, by_place}
 
@@ -90,7 +90,8 @@ Distinct [] = Unit {0}
 Distinct (x ∷ xs) = (Has x xs → ⊥) × Distinct xs
 
 -- A task went from v to w over the first of these lines, and the others are left; `full` where each child went over all
--- its lines. The run has all calls that the task and its descendants made between the two.
+-- its lines, and memory was found. The run has all calls that the task and its descendants made between the two. Where it
+-- was full the task loaded no row twice, over all its calls: at most those that its rules gained.
 pub record Went (full : Bool) (s : Scripted) (ls rest : List ScriptLine) (v w : TaskValue) : Type 0 where
   pub run : Run
   pub table : w.table ≡ v.table
@@ -112,6 +113,7 @@ pub record Went (full : Bool) (s : Scripted) (ls rest : List ScriptLine) (v w : 
   pub fresh : Over by_version v.version run w.version
   pub placed : Over by_place (length v.history) run (length w.history)
   pub within : w.version ≤ length w.journal
+  pub loads : full ≡ true → LoadsOnce v w
 
 -- A worker went over these lines up to the rest or, where it stopped, less far. Where it did not stop, the asked lines
 -- of the run came behind those that it had.

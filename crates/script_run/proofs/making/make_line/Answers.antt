@@ -9,6 +9,7 @@ pub returns-in-Ok-Entry-clause-ran : goal.returns-in-Ok-Entry-clause-ran
 returns-in-Ok-Entry-clause-ran g c = λ ls. let act = c.requires.act in
     called_entry (script_of g.S.ScriptLines.told c.args.stage) (call_seen c.args.line.now) ls c.args.task.now c.call.new.task c.args.asked.now c.args.asked.now
     c.args.call c.in-Ok-Entry.field-0 c.in-Ok-Entry.field-0-0 act.0 act.1 c.in-Ok-Entry.field-0-is c.in-Ok-Entry.ensures.called
+    c.in-Ok-Entry.ensures.once
 
 pub returns-in-Ok-TrailFull-clause-ran : goal.returns-in-Ok-TrailFull-clause-ran
 returns-in-Ok-TrailFull-clause-ran g c = λ ls. called_full (script_of g.S.ScriptLines.told c.args.stage) (call_seen c.args.line.now) ls c.args.task.now c.call.new.task

@@ -25,7 +25,7 @@ fork_line-returns-in-Ok-clause-ran g t c =
     fork_lines (script_of g.S.ScriptLines.told c.args.stage) c.args.pid c.args.child c.args.at c.wait_place-until.result c.args.to (length (g.S.ScriptLines.told c.args.stage.script.now))
     c.meet.result.at (call_seen c.args.line.now) c.args.task c.fork.new.task h.0.task c.in-Ok.kid h.1.task c.meet.result.worked.task f.0
     c.args.asked h.0.asked h.1.asked c.meet.result.worked.asked (is_some h.0.stop) (is_some h.1.stop) (is_some c.meet.result.worked.stop)
-    p.0 p.1 (omega arith) refl c.requires.first c.requires.line f.1 f.2 f.3 c.halves-mine.ensures.mine c.halves-mine.ensures.theirs
+    p.0 p.1 (omega arith) refl c.requires.first c.requires.line f.1 f.2 f.3 f.4 c.halves-mine.ensures.mine c.halves-mine.ensures.theirs
     c.meet.ensures.met c.wait_place-until.ensures.line
 
 pub go-loop-line-init : goal.go-loop-line-init

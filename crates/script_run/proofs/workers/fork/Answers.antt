@@ -8,6 +8,7 @@ use Rattle.script_run.proofs.workers.fork.Goals as goal
 pub returns-in-Some-clause-forked : goal.returns-in-Some-clause-forked
 returns-in-Some-clause-forked g c = forked_some c.args.task.now c.fork.new.task c.in-Some.kid c.args.child c.in-Ok.called
     (subst (IsForked c.args.task.now c.fork.new.task c.args.child c.in-Ok.called) c.in-Some.is c.in-Ok.ensures.forked)
+    c.in-Ok.ensures.once
 
 pub returns-clause-forked : goal.returns-clause-forked
 returns-clause-forked g c = forked_none c.args.task.now c.fork.new.task c.args.child c.in-Ok.called c.why_no_child.result c.requires.top
