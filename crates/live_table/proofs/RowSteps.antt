@@ -73,7 +73,7 @@ module _ {S E : Type 0} (m : Means S E) where
   }
 
   -- what the seat counts is no matter to the rule
-  fits_counting : (c : Core E) (me : ℕ) (v : View E) → Fits m c me v → (loads misses : ℕ)
+  pub fits_counting : (c : Core E) (me : ℕ) (v : View E) → Fits m c me v → (loads misses : ℕ)
       → Fits m c me (record v { loads = loads; misses = misses })
   fits_counting c me v f loads misses = record {
     seen = f.seen;

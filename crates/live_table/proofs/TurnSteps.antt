@@ -17,7 +17,7 @@ use Rattle.live_table.specs.Machines.{Means, makes, made, last_from, last_versio
 use Rattle.live_table.specs.Core.{bit, Core, drawn_count, Home, HoldsTurn, Owns, Fits, Rule}
 use Rattle.live_table.specs.Plays.{took, gave, drew, MayGive, IsTurn, at_turn, given, enrolled}
 use Rattle.live_table.proofs.Lists.{begins_self, begins_more, begins_length, has_left, those-append, those_none, each_set, there_set, at_same}
-use Rattle.live_table.proofs.RowSteps.{unmoved, holds_set, in_room, has_none}
+use Rattle.live_table.proofs.RowSteps.{unmoved, fits_counting, holds_set, in_room, has_none}
 
 module _ {S E : Type 0} (m : Means S E) where
   abbrev St : Type 0
@@ -145,12 +145,12 @@ module _ {S E : Type 0} (m : Means S E) where
           (λ miss. absurd (miss hit)),
         ),
       ))
-      (λ miss. (
-        me.0,
+      (λ miss. let w : View E = record me.0 { misses = me.0.misses + 1 } in (
+        w,
         keeps,
         tt,
-        unmoved m s r 2 id me.1 me.0 me.0 at (r.fits id me.0 at) refl refl refl,
-        ((λ hit. absurd (miss hit)), (λ _. refl)),
+        unmoved m s r 2 id me.1 me.0 w at (fits_counting m r.core id me.0 (r.fits id me.0 at) w.loads w.misses) refl refl refl,
+        ((λ hit. absurd (miss hit)), (λ _. (refl, refl))),
       ))
 
   pub made-append : (xs ys : List E) → made m (xs ++ ys) ≡ made m xs + made m ys

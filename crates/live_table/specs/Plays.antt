@@ -144,7 +144,8 @@ module _ {S E : Type 0} (m : Means S E) where
     pub packed : ArePacked w.journal
 
   abbrev pub took : Telling S E
-  took st me r me' = (r ≡ 0 → (x : S) × TookTurn me.0 me'.0 me'.1 x) × (¬ (r ≡ 0) → me' ≡ me)
+  took st me r me' = (r ≡ 0 → (x : S) × TookTurn me.0 me'.0 me'.1 x)
+      × (¬ (r ≡ 0) → (me'.1 ≡ me.1) × (me'.0 ≡ record me.0 { misses = me.0.misses + 1 }))
 
   abbrev pub gave : Telling S E
   gave st me r me' = (me'.1 ≡ [])

@@ -58,6 +58,10 @@ pub record IsOpening (words : List ℕ) : Type 0 where
 abbrev pub with_loads : {E : Type 0} → ℕ → SeatValue E → SeatValue E
 with_loads n s = record s { view = record s.view { loads = n } }
 
+-- the seat, after it met the pen or the turn in another's hand so often
+abbrev pub with_misses : {E : Type 0} → ℕ → SeatValue E → SeatValue E
+with_misses n s = record s { view = record s.view { misses = n } }
+
 -- it holds neither pen nor turn
 abbrev pub Rests : {E : Type 0} → View E → Type 0
 Rests v = (v.pen ≡ false) × (v.turn ≡ false)

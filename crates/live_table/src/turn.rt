@@ -1,6 +1,6 @@
-ghost use Rattle.std.specs.Prelude.{◌≡◌, ◌+◌, ◌++◌, List, true, false, IfSome, IfNone};
+ghost use Rattle.std.specs.Prelude.{◌≡◌, ◌<◌, ◌+◌, ◌++◌, List, true, false, IfSome, IfNone};
 ghost use Rattle.live_table.specs.Plays.{given as given_with, MayGive};
-ghost use Rattle.live_table.specs.Seats.{Rests, Turns, SameCounts};
+ghost use Rattle.live_table.specs.Seats.{Rests, Turns, SameCounts, with_misses};
 
 use crate::machine::Machine;
 use crate::plays::{Give, See, Take};
@@ -9,7 +9,8 @@ use crate::table::{LiveTable, PUBLISHED, SLOT, TURN};
 use std::sync::Wait;
 
 impl<M: Machine> LiveTable<M> {
-    /// Takes the turn where it is free: the value of the machine.
+    /// Takes the turn where it is free: the value of the machine. Where it did not take it, another
+    /// seat had it.
     fn try_turn(&self, seat: &mut TaskSeat<M>) -> Option<M>
         requires table { seat.old.table ≡ self.now }
         requires rests { Rests seat.old.view }
@@ -17,7 +18,7 @@ impl<M: Machine> LiveTable<M> {
             × Turns M.means seat.old.view seat.new.view value
             × (seat.new.view.loads ≡ seat.old.view.loads) × (seat.new.view.looks ≡ seat.old.view.looks + 1)
             × (seat.new.view.pens ≡ seat.old.view.pens)) }
-        ensures none { IfNone result (seat.new ≡ seat.old) }
+        ensures none { IfNone result ((seat.new ≡ with_misses seat.new.view.misses seat.old) × (seat.old.view.misses < seat.new.view.misses)) }
     {
         let found = self
             .table

@@ -33,7 +33,7 @@ pub struct View<E> {
     pub looks: u64,
     /// So often it took the pen.
     pub pens: u64,
-    /// So often it met the pen in another's hand, or a word that had changed where it reached for the
-    /// pen.
+    /// So often it met the pen or the turn in another's hand, or a word that had changed where it
+    /// reached for the pen.
     pub misses: u64,
 }

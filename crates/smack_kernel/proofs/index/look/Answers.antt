@@ -1,4 +1,4 @@
-use Rattle.std.proofs.Common.{sym, subst, ap}
+use Rattle.std.proofs.Common.{sym, subst}
 use Rattle.live_table.specs.Seats.{SeatValue, Sees}
 use Rattle.live_table.proofs.AfterSteps.{sees_loaded}
 use Rattle.smack_kernel.proofs.Indexes.{stands_longer}

@@ -3,7 +3,6 @@ use Rattle.std.specs.Prelude.{IfOk}
 use Rattle.rules_spec.specs.Rulings.{ruling}
 use Rattle.world_spec.specs.declared.Entry.{Entry}
 use Rattle.world_spec.specs.Worlds.{creds_of}
-use Rattle.live_table.specs.declared.view.View.{View}
 use Rattle.live_table.specs.Batches.{rows_of}
 use Rattle.live_table.specs.Plays.{MayGive, given}
 use Rattle.live_table.specs.Seats.{SeatValue, with_loads}

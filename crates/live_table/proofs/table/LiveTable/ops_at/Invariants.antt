@@ -1,4 +1,4 @@
-use Rattle.std.proofs.Common.{◌≡◌, ◌≤◌, ◌+◌, List, length}
+use Rattle.std.proofs.Common.{◌≡◌, ◌+◌, List, length}
 use Rattle.smack_base.specs.declared.rule_op.RuleOp.{RuleOp}
 use Rattle.live_table.specs.Batches.{words_of, OpsAt}
 use Rattle.live_table.specs.Seats.{with_loads}
