@@ -1,4 +1,4 @@
-use Rattle.std.specs.Prelude.{◌≤◌, ◌+◌, ℕ, List, [], ◌∷◌, ◌++◌, false}
+use Rattle.std.specs.Prelude.{◌≡◌, ◌≤◌, ◌+◌, ℕ, List, [], ◌∷◌, ◌++◌, length, false}
 use Rattle.atomic_table.specs.Seated.{TableId}
 use Rattle.smack_base.specs.declared.ids.LabelId.{LabelId}
 use Rattle.smack_base.specs.declared.rule_op.RuleOp.{RuleOp}
@@ -6,6 +6,8 @@ use Rattle.smack_base.specs.declared.rule_op.RuleOp.TheVariants as RuleOp
 use Rattle.rules_spec.specs.AskedModes.{read, write}
 use Rattle.rules_spec.specs.declared.Batch.{Batch}
 use Rattle.script_spec.specs.Lines.{ScriptLine}
+use Rattle.live_table.specs.Lists.{Has}
+use Rattle.live_table.specs.Batches.{rows_of}
 use Rattle.record_spec.specs.declared.AskedLine.{AskedLine}
 use Rattle.smack_kernel.specs.Indexes.{version_rows}
 use Rattle.smack_kernel.specs.Tasks.{TaskValue, Starts, LoadsOnce, first_task}
@@ -33,6 +35,10 @@ pub record WorkedLoads : Type 0 where
   -- over all its lines, the first task of a kernel: those of the version that its rules have then taken
   pub first : (s : Scripted) (ls rest : List ScriptLine) (table : TableId) (w : TaskValue) (x y : List AskedLine)
       → Ran false s ls rest (first_task table) w x y → w.loads ≤ version_rows w.journal w.version
+  -- and each task that it adopted, at most those of the journal
+  pub others : (s : Scripted) (ls rest : List ScriptLine) (table : TableId) (w : TaskValue) (x y : List AskedLine)
+      → Ran false s ls rest (first_task table) w x y
+      → (length w.ended_loads ≡ length w.ended) × ((n : ℕ) → Has n w.ended_loads → n ≤ rows_of w.journal)
   -- over all its lines, the child of a fork: those of that version, less those that it began with
   pub child : (s : Scripted) (ls rest : List ScriptLine) (u c w : TaskValue) (x y : List AskedLine)
       → Starts u c c.number → Ran false s ls rest c w x y

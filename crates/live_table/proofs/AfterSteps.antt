@@ -32,11 +32,10 @@ module _ {S E : Type 0} (m : Means S E) where
     turn = ap (λ (y : View E). y.turn) h.view;
     noticed = ap (λ (y : View E). y.noticed) h.view;
     known = ap (λ (y : View E). y.known) h.view;
-    counts = record {
-      loads = ap (λ (y : View E). y.loads) h.view;
-      looks = ap (λ (y : View E). y.looks) h.view;
-      pens = ap (λ (y : View E). y.pens) h.view;
-    };
+    loads = ap (λ (y : View E). y.loads) h.view;
+    ended_loads = ap (λ (y : View E). y.ended_loads) h.view;
+    looks = ap (λ (y : View E). y.looks) h.view;
+    pens = ap (λ (y : View E). y.pens) h.view;
     journal = h.journal;
     history = h.history;
     told_journal = h.told_journal;

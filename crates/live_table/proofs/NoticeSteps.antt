@@ -81,6 +81,7 @@ module _ {S E : Type 0} (m : Means S E) where
     marked = b;
     known = v.known;
     loads = 0;
+    ended_loads = [];
     looks = 0;
     pens = 0;
     misses = 0;

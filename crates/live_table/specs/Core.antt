@@ -149,6 +149,7 @@ opening_view = record {
   marked = false;
   known = 0;
   loads = 0;
+  ended_loads = [];
   looks = 0;
   pens = 0;
   misses = 0;

@@ -12,6 +12,11 @@ use Rattle.live_table.specs.Core.{row_count}
 abbrev pub Telling : (S E : Type 0) → Type 1
 Telling S E = Step (Option S) → Me (Option S) (View E) → ℕ → Me (Option S) (View E) → Type 0
 
+-- What a seat of these numbers loaded, and each that it adopted; a notice, which has no number, loads nothing.
+abbrev pub loads_of : List ℕ → ℕ → List ℕ → List ℕ
+loads_of [] loads ended = []
+loads_of (k ∷ ks) loads ended = loads ∷ ended
+
 module _ {E : Type 0} where
   -- The seat looked, and has seen the journal that the found word tells: it begins with what the seat had seen, and its
   -- numbers have no more batches in it.
@@ -52,6 +57,7 @@ module _ {E : Type 0} where
     marked = v.turn && not v.noticed;
     known = v.known;
     loads = 0;
+    ended_loads = [];
     looks = 0;
     pens = 0;
     misses = 0;
@@ -73,18 +79,20 @@ module _ {E : Type 0} where
     marked = false;
     known = 0;
     loads = 0;
+    ended_loads = [];
     looks = 0;
     pens = 0;
     misses = 0;
   }
 
-  -- what the other view has is kept as told, until the next look at the rows; what it counted ends with it
+  -- what the other view has is kept as told, until the next look at the rows, and what it loaded is noted
   abbrev pub joined : View E → View E → View E
   joined v w = record v {
     told_numbers = w.numbers;
     told_journal = w.journal;
     told_history = w.history;
     known = max v.known w.known;
+    ended_loads = v.ended_loads ++ loads_of w.numbers w.loads w.ended_loads;
   }
 
   -- the view with the turn

@@ -7,7 +7,7 @@ use Rattle.live_table.specs.Lists.{Begins, Has, rest_of}
 use Rattle.live_table.specs.Batches.{ArePacked, words_of, rows_of, batches_by}
 use Rattle.live_table.specs.Machines.{Means, LegalFrom, last_version, entries_by}
 use Rattle.live_table.specs.Core.{row_count}
-use Rattle.live_table.specs.Plays.{at_turn}
+use Rattle.live_table.specs.Plays.{at_turn, loads_of}
 
 -- a seat with a number, as contracts see it: the table that it is of, its own number, and what it knows
 pub record SeatValue (E : Type 0) : Type 0 where
@@ -73,11 +73,12 @@ pub record AreWhole (filled : List ℕ) (number : ℕ) : Type 0 where
   pub own : (b : Batch) → Has b batches → b.task ≡ number
   pub packed : ArePacked batches
 
--- it has loaded no row since, nor looked, nor taken the pen
+-- it has loaded no row since, nor adopted a seat, nor looked, nor taken the pen
 pub record SameCounts {E : Type 0} (v w : View E) : Type 0 where
   pub loads : w.loads ≡ v.loads
   pub looks : w.looks ≡ v.looks
   pub pens : w.pens ≡ v.pens
+  pub ended_loads : w.ended_loads ≡ v.ended_loads
 
 -- The view v after looks at the rows, and loads of rows: the seen journal is longer or the same, and the seat's numbers
 -- have no more batches in it. The pen, how often it was taken, and the turn are as before.
@@ -96,7 +97,10 @@ module _ {S E : Type 0} (m : Means S E) where
     pub turn : x.turn ≡ v.turn
     pub noticed : x.noticed ≡ v.noticed
     pub known : x.known ≡ max v.known w.known
-    pub counts : SameCounts v x
+    pub loads : x.loads ≡ v.loads
+    pub ended_loads : x.ended_loads ≡ v.ended_loads ++ loads_of w.numbers w.loads w.ended_loads
+    pub looks : x.looks ≡ v.looks
+    pub pens : x.pens ≡ v.pens
     pub journal : Begins x.journal v.journal
     pub history : Begins x.history v.history
     pub told_journal : Begins x.journal w.journal

@@ -29,6 +29,8 @@ pub struct View<E> {
     pub known: u64,
     /// So many rows it has loaded, each time that it loaded one.
     pub loads: u64,
+    /// So many rows each seat had loaded that it adopted, and each that those had adopted.
+    pub ended_loads: LinkedList<u64>,
     /// So often it looked at what is published, other than where it heard another seat.
     pub looks: u64,
     /// So often it took the pen.

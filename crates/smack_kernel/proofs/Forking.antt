@@ -23,7 +23,7 @@ use Rattle.live_table.specs.declared.view.View.{View}
 use Rattle.live_table.specs.Lists.{Begins, Has, here, rest_of}
 use Rattle.live_table.specs.Batches.{batches_by}
 use Rattle.live_table.specs.Machines.{made, last_version, entries_by}
-use Rattle.live_table.specs.Plays.{MayGive, given, notified, knowing, notice_of, enrolled}
+use Rattle.live_table.specs.Plays.{MayGive, given, notified, knowing, loads_of, notice_of, enrolled}
 use Rattle.live_table.specs.Seats.{SeatValue, Turns, Hears as HearsView}
 use Rattle.live_table.proofs.Lists.{begins_self, begins_length}
 use Rattle.smack_kernel.specs.Histories.{world_means, child_of}
@@ -77,7 +77,14 @@ drew_all v v1 note c0 c1 d w n n2 number turn quiet e1 en is ec nob noe low e2 e
           ∙ (sym (ap (λ (y : View Entry). entries_by world_means number y.history) en) ∙ noe);
       child_batches = ap (λ (y : View Entry). batches_by number y.journal) c1v
           ∙ (sym (ap (λ (y : View Entry). batches_by number y.journal) en) ∙ nob);
-      counts = record { loads = h.counts.loads; looks = h.counts.looks; pens = h.counts.pens };
+      counts = record {
+        loads = h.loads;
+        looks = h.looks;
+        pens = h.pens;
+        ended_loads = h.ended_loads
+            ∙ (ap (λ (y : View Entry). v.ended_loads ++ loads_of y.numbers y.loads y.ended_loads) dv ∙ append-nil v.ended_loads);
+      };
+      child_ended_loads = ap (λ (y : View Entry). y.ended_loads) c1v;
       child_loads = ap (λ (y : View Entry). y.loads) c1v;
       child_looks = ap (λ (y : View Entry). y.looks) c1v;
       child_pens = ap (λ (y : View Entry). y.pens) c1v;
@@ -136,9 +143,13 @@ forks_all v u c u1 u2 note c2 number n e d e1 e2 en h =
       child_rests = (h.pen ∙ d.child_rests.0, h.turn ∙ d.child_rests.1);
       child_entries = h.entries number theirs ∙ d.child_entries;
       child_batches = h.batches number theirs ∙ d.child_batches;
-      child_loads = h.counts.loads ∙ d.child_loads;
-      child_looks = h.counts.looks ∙ d.child_looks;
-      child_pens = h.counts.pens ∙ d.child_pens;
+      ended_loads = ap (λ (y : View Entry). y.ended_loads) all ∙ d.counts.ended_loads;
+      child_loads = h.loads ∙ d.child_loads;
+      child_ended_loads = h.ended_loads
+          ∙ (ap (λ (y : View Entry). c.ended_loads ++ loads_of y.numbers y.loads y.ended_loads) nv
+          ∙ (append-nil c.ended_loads ∙ d.child_ended_loads));
+      child_looks = h.looks ∙ d.child_looks;
+      child_pens = h.pens ∙ d.child_pens;
     }
 
 stepped_child : (w : World) (task : ℕ) (e : Effect) (checks : List Verdict) (stop : Option Reply) → Stops stop
@@ -248,7 +259,8 @@ module _ {s : SeatValue Entry} {w : View Entry} {rules : IndexValue} {rows : ℕ
         live
 
     pub calls_forked : Calls (task_of s rules calls creds) (task_of s3 rules' (calls + 1) creds') (Call.Task (TaskCall.Fork pid)) r
-    calls_forked = turn_calls task task_forked calls table number (f.numbers ∙ seen_numbers) later (Call.Task (TaskCall.Fork pid)) r
+    calls_forked = turn_calls task task_forked calls table number (f.numbers ∙ seen_numbers)
+        (f.ended_loads ∙ ap (λ (z : View Entry). z.ended_loads) t.view) later (Call.Task (TaskCall.Fork pid)) r
         (is_made.1 ∙ sym whole)
         (turn_enters task w x t s3.view entry r.place refl f.history f.journal
         (λ q h. f.batches q (subst (Has q) (sym seen_numbers) h)) is_made.0.0 is_made.0.2 is_made.1 is_made.0.3 is_made.0.4)
@@ -305,6 +317,7 @@ module _ {s : SeatValue Entry} {w : View Entry} {rules : IndexValue} {rows : ℕ
       entries = f.child_entries;
       within = stands_within child_task.stands;
       loads = f.child_loads;
+      ended_loads = f.child_ended_loads;
       looks = f.child_looks;
       pens = f.child_pens;
     }
@@ -335,6 +348,7 @@ counted_starts w c n s = record {
   entries = s.entries;
   within = s.within;
   loads = s.loads;
+  ended_loads = s.ended_loads;
   looks = s.looks;
   pens = s.pens;
 }

@@ -11,6 +11,7 @@ use Rattle.live_table.specs.declared.view.View.{View}
 use Rattle.live_table.specs.Lists.{Begins, Has, here, rest_of}
 use Rattle.live_table.specs.Machines.{entries_by}
 use Rattle.live_table.specs.Core.{opening_view}
+use Rattle.live_table.specs.Plays.{loads_of}
 use Rattle.live_table.specs.Seats.{SeatValue, NoticeValue, Rests, Sees, Hears as HearsView}
 use Rattle.live_table.specs.Batches.{rows_of}
 use Rattle.live_table.proofs.Lists.{begins_self, has_either}
@@ -92,6 +93,7 @@ module _ {s s' : SeatValue Entry} {rules rules' : IndexValue} {rows rows' : ℕ}
             (λ k x. ap (entries_by world_means k) history);
         later = later;
         within = stands_within stands;
+        ended_loads = ap (λ (z : View Entry). z.ended_loads) sees.view;
       }
 
 -- what was seen when writes were judged
@@ -146,12 +148,15 @@ module _ {s s' : SeatValue Entry} {rules : IndexValue} {rows : ℕ} {creds : Cre
             grows = grows_by t.numbered hears.journal hears.history hears.batches hears.entries;
             later = omega arith;
             within = stands_within (stands_longer hears.journal t.stands);
+            ended_loads = hears.ended_loads
+                ∙ (ap (λ ns. s.view.ended_loads ++ loads_of ns n.view.loads n.view.ended_loads) is_told.unnumbered
+                ∙ append-nil s.view.ended_loads);
           };
           made = refl;
           creds = refl;
         };
         version = refl;
-        counts = record { loads = hears.counts.loads; looks = hears.counts.looks; pens = hears.counts.pens };
+        counts = record { loads = hears.loads; looks = hears.looks; pens = hears.pens };
         told_journal = subst (λ z. Begins s'.view.journal z) (sym journal) hears.told_journal;
         told_history = subst (λ z. Begins s'.view.history z) (sym history) hears.told_history;
       }
@@ -212,7 +217,8 @@ adopts_does {s} {c} {s'} made made_c t d same hears stands later told_later grea
       version = later;
       told_version = told_later;
       greater = greater;
-      counts = record { loads = hears.counts.loads; looks = hears.counts.looks; pens = hears.counts.pens };
+      ended_loads = hears.ended_loads ∙ ap (λ ns. s.view.ended_loads ++ loads_of ns c.view.loads c.view.ended_loads) d.numbered;
+      counts = record { loads = hears.loads; looks = hears.looks; pens = hears.pens };
       within = stands_within stands;
     }
 

@@ -198,7 +198,8 @@ task_given {s} {s'} {creds' = creds'} m' task number numbers rests stands over i
 -- What a task and its turn come to, after the call was made and the turn was given back with it.
 module _ {s s' : SeatValue Entry} {rules rules' : IndexValue} {rows rows' : ℕ} {creds creds' : Creds}
     (task : IsTask s rules rows creds) (task' : IsTask s' rules' rows' creds') (made : ℕ) (table : s'.table ≡ s.table)
-    (number : s'.number ≡ s.number) (numbers : s'.view.numbers ≡ s.view.numbers) (later : rules.version ≤ rules'.version)
+    (number : s'.number ≡ s.number) (numbers : s'.view.numbers ≡ s.view.numbers)
+    (ended_loads : s'.view.ended_loads ≡ s.view.ended_loads) (later : rules.version ≤ rules'.version)
   where
     pub turn_stays : Grows s.number (rest_of s.view.numbers) s.view.journal s'.view.journal s.view.history s'.view.history [] []
         → creds' ≡ creds → Stays (task_of s rules made creds) (task_of s' rules' made creds')
@@ -210,6 +211,7 @@ module _ {s s' : SeatValue Entry} {rules rules' : IndexValue} {rows rows' : ℕ}
         grows = grows;
         later = later;
         within = stands_within task'.stands;
+        ended_loads = ended_loads;
       };
       made = refl;
       creds = same;
@@ -227,6 +229,7 @@ module _ {s s' : SeatValue Entry} {rules rules' : IndexValue} {rows rows' : ℕ}
         grows = enters.grows;
         later = later;
         within = stands_within task'.stands;
+        ended_loads = ended_loads;
       };
       made = refl;
       now = now;
@@ -246,6 +249,9 @@ module _ {E : Type 0} {s s1 s3 : SeatValue Entry} {rules rules' : IndexValue} {r
     (is : s3.view ≡ given s1.view (entries_made s.number (made + 1) call r)) where
   numbers : s3.view.numbers ≡ s.view.numbers
   numbers = ap (λ (z : View Entry). z.numbers) is ∙ ap (λ (z : View Entry). z.numbers) t.view
+
+  ended_loads : s3.view.ended_loads ≡ s.view.ended_loads
+  ended_loads = ap (λ (z : View Entry). z.ended_loads) is ∙ ap (λ (z : View Entry). z.ended_loads) t.view
 
   journal : s3.view.journal ≡ s1.view.journal
   journal = ap (λ (z : View Entry). z.journal) is
@@ -287,7 +293,7 @@ module _ {E : Type 0} {s s1 s3 : SeatValue Entry} {rules rules' : IndexValue} {r
 
   stays : entries_made s.number (made + 1) call r ≡ [] → m' ≡ x
       → Stays (task_of s rules made creds) (task_of s3 rules' made creds')
-  stays empty same = turn_stays task task_turned made table number numbers later
+  stays empty same = turn_stays task task_turned made table number numbers ended_loads later
       (turn_grows task s1.view x t s3.view (history ∙ (ap (λ z. s1.view.history ++ z) empty ∙ append-nil s1.view.history)) more no_batch)
       (creds_same same)
 
@@ -302,7 +308,7 @@ module _ {E : Type 0} {s s1 s3 : SeatValue Entry} {rules rules' : IndexValue} {r
           let entry = entry_of s.number (made + 1) call e.version e.checks e.reply in
           let ends : s3.view.history ≡ s1.view.history ++ entry ∷ [] =
           history ∙ ap (λ z. s1.view.history ++ entries_made s.number (made + 1) call z) is_q in
-          turn_calls task task_turned made table number numbers later call e (m.1 ∙ sym all)
+          turn_calls task task_turned made table number numbers ended_loads later call e (m.1 ∙ sym all)
           (turn_enters task s1.view x t s3.view entry e.place refl ends more no_batch m.0.0 m.0.2 m.1 m.0.3 m.0.4)
       by (Ok (Turned.TrailFull back)) is_q =
           let m = subst (λ z. IfOk z (IsMade x m' (ruling s1.view.journal) s.number (made + 1) call)) is_q is_made in

@@ -59,6 +59,7 @@ pub record Drew (v w c : View Entry) (number : ℕ) : Type 0 where
   pub child_batches : batches_by number c.journal ≡ []
   pub counts : SameCounts v w
   pub child_loads : c.loads ≡ 0
+  pub child_ended_loads : c.ended_loads ≡ []
   pub child_looks : c.looks ≡ 0
   pub child_pens : c.pens ≡ 0
 
@@ -78,6 +79,8 @@ pub record Forks (v w c : View Entry) (number : ℕ) (e : Entry) : Type 0 where
   pub child_rests : Rests c
   pub child_entries : entries_by world_means number c.history ≡ []
   pub child_batches : batches_by number c.journal ≡ []
+  pub ended_loads : w.ended_loads ≡ v.ended_loads
   pub child_loads : c.loads ≡ 0
+  pub child_ended_loads : c.ended_loads ≡ []
   pub child_looks : c.looks ≡ 0
   pub child_pens : c.pens ≡ 0

@@ -23,8 +23,8 @@ pub record KernelValue : Type 0 where
 
 -- A task as contracts see it: its kernel and its number, how many calls it made, the version that its index stands for,
 -- its credentials, the numbers that it adopted, and the journal and the history that it has seen. Its own batches are
--- those of its number in that journal, and its own entries those in that history. It counts the rows that it loaded, its
--- looks at what is published, and how often it took the pen.
+-- those of its number in that journal, and its own entries those in that history. It counts the rows that it loaded, those
+-- that each task had loaded which it adopted, its looks at what is published, and how often it took the pen.
 pub record TaskValue : Type 0 where
   pub table : TableId
   pub number : ℕ
@@ -35,6 +35,7 @@ pub record TaskValue : Type 0 where
   pub journal : List Batch
   pub history : List Entry
   pub loads : ℕ
+  pub ended_loads : List ℕ
   pub looks : ℕ
   pub pens : ℕ
 
@@ -81,6 +82,7 @@ task_of s rules made creds = record {
   journal = s.view.journal;
   history = s.view.history;
   loads = s.view.loads;
+  ended_loads = s.view.ended_loads;
   looks = s.view.looks;
   pens = s.view.pens;
 }
@@ -104,6 +106,7 @@ first_task table = record {
   journal = [];
   history = [];
   loads = 0;
+  ended_loads = [];
   looks = 0;
   pens = 0;
 }
@@ -117,6 +120,7 @@ pub record Does (v w : TaskValue) (bs : List Batch) (es : List Entry) : Type 0 w
   pub grows : Grows v.number v.ended v.journal w.journal v.history w.history bs es
   pub later : v.version ≤ w.version
   pub within : w.version ≤ length w.journal
+  pub ended_loads : w.ended_loads ≡ v.ended_loads
 
 -- a call that is not counted
 pub record Stays (v w : TaskValue) : Type 0 where
@@ -160,6 +164,7 @@ pub record Starts (w c : TaskValue) (number : ℕ) : Type 0 where
   pub entries : entries_by world_means number c.history ≡ []
   pub within : c.version ≤ length c.journal
   pub loads : c.loads ≡ 0
+  pub ended_loads : c.ended_loads ≡ []
   pub looks : c.looks ≡ 0
   pub pens : c.pens ≡ 0
 
@@ -199,6 +204,7 @@ pub record Adopts (v c w : TaskValue) : Type 0 where
   pub version : v.version ≤ w.version
   pub told_version : c.version ≤ w.version
   pub greater : (w.version ≡ v.version) ⊎ (w.version ≡ c.version)
+  pub ended_loads : w.ended_loads ≡ v.ended_loads ++ c.loads ∷ c.ended_loads
   pub counts : KeepsCounts v w
   pub within : w.version ≤ length w.journal
 

@@ -127,7 +127,8 @@ pub(crate) fn publish<R: Wait>(
     requires own { batch.now.task ≡ seat.old.number }
     requires packed { IsPacked batch.now }
     ensures same { (seat.new.table ≡ seat.old.table) × (seat.new.number ≡ seat.old.number)
-        × Rests seat.new.view × (seat.new.view.numbers ≡ seat.old.view.numbers) × (seat.new.view.history ≡ seat.old.view.history) }
+        × Rests seat.new.view × (seat.new.view.numbers ≡ seat.old.view.numbers) × (seat.new.view.history ≡ seat.old.view.history)
+        × (seat.new.view.ended_loads ≡ seat.old.view.ended_loads) }
     ensures stands { StandsAt index.new.rules index.new.rows seat.new.view.journal }
     ensures later { index.old.rules.version ≤ index.new.rules.version }
     ensures whole { OnOk result (index.new.rules.version ≡ length seat.new.view.journal) }

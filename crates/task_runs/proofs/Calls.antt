@@ -29,9 +29,18 @@ use Rattle.smack_kernel.specs.Histories.{child_of}
 use Rattle.smack_kernel.specs.declared.turns.Entered.{Entered}
 use Rattle.task_runs.specs.Scripts.{Scripted}
 use Rattle.task_runs.specs.Deeds.{Deed, entered, batched, answered, entries_in, batches_in, Sees, creds_after, IsTrueAnswer, IsAt, Fits, IsNoWait, IsPlain, by_version, by_place, IsSeen}
-use Rattle.task_runs.specs.Runs.{ends, does, Went, Ran}
+use Rattle.task_runs.specs.Runs.{ends, does, OthersLoad, Went, Ran}
 use Rattle.task_runs.proofs.Growing.{stands_last, sees_grow, creds_grow}
 use Rattle.task_runs.proofs.Runs.{stopped}
+
+-- no task was adopted
+others_none : {v w : TaskValue} → w.ended_loads ≡ v.ended_loads → OthersLoad v w 0
+others_none {v} {w} same = record {
+  more = [];
+  is = same ∙ sym (append-nil v.ended_loads);
+  each = refl;
+  few = λ n h. elim h [ ];
+}
 
 -- nothing was made
 pub went_none : (full : Bool) (s : Scripted) (ls : List ScriptLine) (v w : TaskValue) → Stays v w → (full ≡ true → LoadsOnce v w)
@@ -58,6 +67,7 @@ went_none full s ls v w st once = let d = st.does in let g = d.grows in record {
   placed = begins_length g.history;
   within = d.within;
   loads = once;
+  others_load = λ _. others_none d.ended_loads;
 }
 
 -- at most a call was counted
@@ -76,6 +86,7 @@ does_count v made top = record {
   };
   later = le_refl v.version;
   within = top;
+  ended_loads = refl;
 }
 
 pub stays_self : (v : TaskValue) → v.version ≤ length v.journal → Stays v v
@@ -128,6 +139,7 @@ went_one full s l ls v w d does_ made fits plain at fresh placed once = let g = 
   placed = (length w.history, placed, le_refl (length w.history));
   within = does_.within;
   loads = once;
+  others_load = λ _. others_none does_.ended_loads;
 }
 
 -- a line that became an entry and made no task

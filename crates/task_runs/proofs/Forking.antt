@@ -11,7 +11,7 @@ use Rattle.record_spec.specs.declared.AskedLine.{AskedLine}
 use Rattle.record_spec.specs.declared.AskedWhat.TheVariants as AskedWhat
 use Rattle.legal_spec.specs.Calls.{Stands}
 use Rattle.live_table.specs.Lists.{Begins, Has, here, there}
-use Rattle.live_table.specs.Batches.{batches_by}
+use Rattle.live_table.specs.Batches.{batches_by, rows_of}
 use Rattle.live_table.proofs.Lists.{has_left, has_right, has_either, begins_trans, begins_length, rows_begin}
 use Rattle.smack_kernel.specs.Tasks.{TaskValue, Calls, Starts, Adopts, LoadsOnce}
 use Rattle.smack_kernel.specs.Indexes.{version_rows}
@@ -57,6 +57,13 @@ pub kids-theirs : (f g : Bool) (s : Scripted) (r : Run) → Kids g s r → Kids 
 kids-theirs true g s r k = k
 kids-theirs false true s r k = kids-any false s r k
 kids-theirs false false s r k = k
+
+pub version_within : (j : List Batch) (n : ℕ) → version_rows j n ≤ rows_of j
+version_within j n = rows_begin {xs = j} {ys = take n j} record { rest = drop n j; is = sym (take-append-drop n j) }
+
+pub has_first_or : (P : ℕ → Type 0) {x : ℕ} {xs : List ℕ} → P x → ((n : ℕ) → Has n xs → P n) → (n : ℕ) → Has n (x ∷ xs) → P n
+has_first_or P p q n here = p
+has_first_or P p q n (there h) = q n h
 
 -- a later version of a longer journal has no fewer rows
 pub rows_grow : {j j' : List Batch} (n m : ℕ) → Begins j' j → n ≤ length j → n ≤ m → version_rows j n ≤ version_rows j' m
@@ -182,6 +189,28 @@ module _ (s : Scripted) (pid : ℕ) (ls mid rest left : List ScriptLine) (v u u'
         let d : w.loads ≡ u'.loads = adopted.counts.loads in
         let e : version_rows u'.journal u'.version ≤ version_rows w.journal w.version =
         rows_grow u'.version w.version adopted.journal mine.within adopted.version in omega arith;
+    others_load = λ z.
+        let x = mine.others_load (both f g z).0 in
+        let y = theirs.others_load (both f g z).1 in
+        let once : c'.loads + version_rows c.journal c.version ≤ c.loads + version_rows c'.journal c'.version = theirs.loads (both f g z).1 in
+        let told = rows_begin adopted.told_journal in
+        record {
+          more = x.more ++ c'.loads ∷ y.more;
+          is = adopted.ended_loads ∙ ((λ i. (x.is ∙ ap (λ l. l ++ x.more) call_.does.ended_loads) i
+              ++ c'.loads ∷ (y.is ∙ ap (λ l. l ++ y.more) st.ended_loads) i)
+              ∙ append_assoc v.ended_loads x.more (c'.loads ∷ y.more));
+          each = omega (
+            arith,
+            length-append x.more (c'.loads ∷ y.more),
+            length-append (numbers mine.run) ((c.number ∷ numbers theirs.run) ++ []),
+            length-append (c.number ∷ numbers theirs.run) [],
+            x.each,
+            y.each,
+          );
+          few = λ n h. ⊎_elim (λ i. omega (arith, x.few n i, rows_begin adopted.journal))
+              (has_first_or (λ k. k ≤ rows_of w.journal) (omega (arith, once, st.loads, version_within c'.journal c'.version, told))
+              (λ k i. omega (arith, y.few k i, told)) n) (has_either x.more (c'.loads ∷ y.more) h);
+        };
   } where
     e : Entry
     e = entry_of v.number (v.made + 1) (Call.Task (TaskCall.Fork (record { 0 = pid }))) r.version r.checks r.reply

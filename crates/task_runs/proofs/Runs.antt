@@ -8,7 +8,7 @@ use Rattle.record_spec.specs.declared.AskedWhat.{AskedWhat}
 use Rattle.record_spec.specs.declared.AskedWhat.TheVariants as AskedWhat
 use Rattle.live_table.specs.Lists.{Has, here, there}
 use Rattle.live_table.specs.Batches.{batches_by}
-use Rattle.live_table.proofs.Lists.{has_left, has_right, has_either, begins_trans}
+use Rattle.live_table.proofs.Lists.{has_left, has_right, has_either, begins_trans, rows_begin}
 use Rattle.smack_kernel.specs.Tasks.{TaskValue}
 use Rattle.smack_kernel.specs.Indexes.{version_rows}
 use Rattle.task_runs.specs.Scripts.{Scripted}
@@ -196,6 +196,21 @@ went_then full s ls mid rest v u w a b = record {
   within = b.within;
   loads = λ z. let x : u.loads + version_rows v.journal v.version ≤ v.loads + version_rows u.journal u.version = a.loads refl in
       let y : w.loads + version_rows u.journal u.version ≤ u.loads + version_rows w.journal w.version = b.loads z in omega arith;
+  others_load = λ z. let x = a.others_load refl in
+      let y = b.others_load z in
+      record {
+        more = x.more ++ y.more;
+        is = y.is ∙ (ap (λ l. l ++ y.more) x.is ∙ append_assoc v.ended_loads x.more y.more);
+        each = omega (
+          arith,
+          length-append x.more y.more,
+          length-append (numbers a.run) (numbers b.run),
+          ap (λ (l : List ℕ). length l) (numbers-then a.run b.run),
+          x.each,
+          y.each,
+        );
+        few = λ n h. ⊎_elim (λ i. omega (arith, x.few n i, rows_begin b.journal)) (y.few n) (has_either x.more y.more h);
+      };
 } where
   owns : own (then a.run b.run) ≡ own a.run ++ own b.run
   owns = own-then a.run b.run
@@ -235,6 +250,7 @@ over_lines full full' s ls left ls' left' v w a kids fits as_full = record {
   placed = a.placed;
   within = a.within;
   loads = λ z. a.loads (as_full z);
+  others_load = λ z. a.others_load (as_full z);
 }
 
 -- all lines up to the rest

@@ -8,7 +8,7 @@ use Rattle.script_spec.specs.Lines.{ScriptLine}
 use Rattle.record_spec.specs.declared.AskedLine.{AskedLine}
 use Rattle.record_spec.specs.declared.AskedWhat.TheVariants as AskedWhat
 use Rattle.live_table.specs.Lists.{Begins, Has}
-use Rattle.live_table.specs.Batches.{batches_by}
+use Rattle.live_table.specs.Batches.{batches_by, rows_of}
 use Rattle.smack_kernel.specs.Tasks.{TaskValue, LoadsOnce}
 use Rattle.task_runs.specs.Scripts.{Scripted, lines_by}
 use Rattle.task_runs.specs.Deeds.{entries_of, Deed, entered, answered, asked_in, entries_in, batches_in, AllAt, Made, FitsTo, IsPlain, by_version, by_place}
@@ -89,9 +89,17 @@ abbrev pub Distinct : List ℕ → Type 0
 Distinct [] = Unit {0}
 Distinct (x ∷ xs) = (Has x xs → ⊥) × Distinct xs
 
+-- What so many tasks loaded that were adopted between v and w: each at most the rows of the journal.
+pub record OthersLoad (v w : TaskValue) (count : ℕ) : Type 0 where
+  pub more : List ℕ
+  pub is : w.ended_loads ≡ v.ended_loads ++ more
+  pub each : length more ≡ count
+  pub few : (n : ℕ) → Has n more → n ≤ rows_of w.journal
+
 -- A task went from v to w over the first of these lines, and the others are left; `full` where each child went over all
 -- its lines, and memory was found. The run has all calls that the task and its descendants made between the two. Where it
--- was full the task loaded no row twice, over all its calls: at most those that its rules gained.
+-- was full neither the task, over all its calls, nor any of its descendants loaded a row twice: it loaded at most those that
+-- its rules gained, and they at most those of the journal.
 pub record Went (full : Bool) (s : Scripted) (ls rest : List ScriptLine) (v w : TaskValue) : Type 0 where
   pub run : Run
   pub table : w.table ≡ v.table
@@ -114,6 +122,7 @@ pub record Went (full : Bool) (s : Scripted) (ls rest : List ScriptLine) (v w : 
   pub placed : Over by_place (length v.history) run (length w.history)
   pub within : w.version ≤ length w.journal
   pub loads : full ≡ true → LoadsOnce v w
+  pub others_load : full ≡ true → OthersLoad v w (length (numbers run))
 
 -- A worker went over these lines up to the rest or, where it stopped, less far. Where it did not stop, the asked lines
 -- of the run came behind those that it had.

@@ -40,4 +40,5 @@ returns-clause-counted c =
       loads = ap (λ (v : View Entry). v.loads) told ∙ (gave.loads ∙ drew.loads);
       looks = ap (λ (v : View Entry). v.looks) told ∙ (gave.looks ∙ drew.looks);
       pens = ap (λ (v : View Entry). v.pens) told ∙ (gave.pens ∙ drew.pens);
+      ended_loads = ap (λ (v : View Entry). v.ended_loads) told ∙ (gave.ended_loads ∙ drew.ended_loads);
     }

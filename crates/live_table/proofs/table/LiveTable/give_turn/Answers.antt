@@ -57,6 +57,7 @@ returns-clause-counted g c =
       loads = ap (λ z. z.0.loads) is ∙ ap (λ (s : SeatValue _). s.view.loads) c.seat.view_is;
       looks = ap (λ z. z.0.looks) is ∙ ap (λ (s : SeatValue _). s.view.looks) c.seat.view_is;
       pens = ap (λ z. z.0.pens) is ∙ ap (λ (s : SeatValue _). s.view.pens) c.seat.view_is;
+      ended_loads = ap (λ z. z.0.ended_loads) is ∙ ap (λ (s : SeatValue _). s.view.ended_loads) c.seat.view_is;
     }
 
 pub returns-clause-seen : goal.returns-clause-seen

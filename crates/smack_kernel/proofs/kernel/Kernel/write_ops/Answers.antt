@@ -22,6 +22,7 @@ returns-in_err-published-clause-stays g c =
         grows = c.in_err-published.ensures.err;
         later = e.later;
         within = stands_within e.stands;
+        ended_loads = e.same.5;
       };
       made = refl;
       creds = refl;
