@@ -84,10 +84,12 @@ drew_all v v1 note c0 c1 d w n n2 number turn quiet e1 en is ec nob noe low e2 e
         ended_loads = h.ended_loads
             ∙ (ap (λ (y : View Entry). v.ended_loads ++ loads_of y.numbers y.loads y.ended_loads) dv ∙ append-nil v.ended_loads);
       };
-      child_ended_loads = ap (λ (y : View Entry). y.ended_loads) c1v;
-      child_loads = ap (λ (y : View Entry). y.loads) c1v;
-      child_looks = ap (λ (y : View Entry). y.looks) c1v;
-      child_pens = ap (λ (y : View Entry). y.pens) c1v;
+      child_counts = record {
+        loads = ap (λ (y : View Entry). y.loads) c1v;
+        ended_loads = ap (λ (y : View Entry). y.ended_loads) c1v;
+        looks = ap (λ (y : View Entry). y.looks) c1v;
+        pens = ap (λ (y : View Entry). y.pens) c1v;
+      };
     }
 
 -- the turn may be given back with the entry of a fork, after a child was drawn
@@ -144,12 +146,14 @@ forks_all v u c u1 u2 note c2 number n e d e1 e2 en h =
       child_entries = h.entries number theirs ∙ d.child_entries;
       child_batches = h.batches number theirs ∙ d.child_batches;
       ended_loads = ap (λ (y : View Entry). y.ended_loads) all ∙ d.counts.ended_loads;
-      child_loads = h.loads ∙ d.child_loads;
-      child_ended_loads = h.ended_loads
-          ∙ (ap (λ (y : View Entry). c.ended_loads ++ loads_of y.numbers y.loads y.ended_loads) nv
-          ∙ (append-nil c.ended_loads ∙ d.child_ended_loads));
-      child_looks = h.looks ∙ d.child_looks;
-      child_pens = h.pens ∙ d.child_pens;
+      child_counts = record {
+        loads = h.loads ∙ d.child_counts.loads;
+        ended_loads = h.ended_loads
+            ∙ (ap (λ (y : View Entry). c.ended_loads ++ loads_of y.numbers y.loads y.ended_loads) nv
+            ∙ (append-nil c.ended_loads ∙ d.child_counts.ended_loads));
+        looks = h.looks ∙ d.child_counts.looks;
+        pens = h.pens ∙ d.child_counts.pens;
+      };
     }
 
 stepped_child : (w : World) (task : ℕ) (e : Effect) (checks : List Verdict) (stop : Option Reply) → Stops stop
@@ -316,10 +320,10 @@ module _ {s : SeatValue Entry} {w : View Entry} {rules : IndexValue} {rows : ℕ
       batches = f.child_batches;
       entries = f.child_entries;
       within = stands_within child_task.stands;
-      loads = f.child_loads;
-      ended_loads = f.child_ended_loads;
-      looks = f.child_looks;
-      pens = f.child_pens;
+      loads = f.child_counts.loads;
+      ended_loads = f.child_counts.ended_loads;
+      looks = f.child_counts.looks;
+      pens = f.child_counts.pens;
     }
 
     pub child_named : child_of r.reply ≡ Some c.number

@@ -9,6 +9,7 @@ use Rattle.live_table.specs.declared.view.View.{View}
 use Rattle.live_table.specs.Lists.{Begins, Has}
 use Rattle.live_table.specs.Batches.{batches_by}
 use Rattle.live_table.specs.Machines.{made, last_version, entries_by}
+use Rattle.live_table.specs.Core.{opening_view}
 use Rattle.live_table.specs.Seats.{Rests, SameCounts}
 use Rattle.smack_kernel.specs.declared.turns.Turned.{Turned}
 use Rattle.smack_kernel.specs.declared.turns.Turned.TheVariants as Turned
@@ -41,7 +42,7 @@ pub record MayFork (v : View Entry) (x : WorldValue) (e : Entry) : Type 0 where
   pub child : child_of e.reply ≡ Some (made world_means v.history + 1)
   pub few : made world_means v.history + 1 < 4096
 
--- A seat with the turn drew a number for a child, and knows that it is drawn.
+-- A seat with the turn drew a number for a child, which has counted nothing, and knows that it is drawn.
 pub record Drew (v w c : View Entry) (number : ℕ) : Type 0 where
   pub numbers : w.numbers ≡ v.numbers
   pub turn : w.turn ≡ v.turn
@@ -58,10 +59,7 @@ pub record Drew (v w c : View Entry) (number : ℕ) : Type 0 where
   pub child_entries : entries_by world_means number c.history ≡ []
   pub child_batches : batches_by number c.journal ≡ []
   pub counts : SameCounts v w
-  pub child_loads : c.loads ≡ 0
-  pub child_ended_loads : c.ended_loads ≡ []
-  pub child_looks : c.looks ≡ 0
-  pub child_pens : c.pens ≡ 0
+  pub child_counts : SameCounts opening_view c
 
 -- A seat gave the turn back with an entry that makes a task; its child has the number of that task and has seen what the
 -- seat then has.
@@ -80,7 +78,4 @@ pub record Forks (v w c : View Entry) (number : ℕ) (e : Entry) : Type 0 where
   pub child_entries : entries_by world_means number c.history ≡ []
   pub child_batches : batches_by number c.journal ≡ []
   pub ended_loads : w.ended_loads ≡ v.ended_loads
-  pub child_loads : c.loads ≡ 0
-  pub child_ended_loads : c.ended_loads ≡ []
-  pub child_looks : c.looks ≡ 0
-  pub child_pens : c.pens ≡ 0
+  pub child_counts : SameCounts opening_view c
