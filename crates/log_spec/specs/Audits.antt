@@ -1,5 +1,5 @@
 use Rattle.std.specs.Prelude.{◌≡◌, ◌<◌, ℕ, Bool, true, ◌||◌, ◌&&◌, ◌==◌, if◌then◌else◌, List, [], ◌∷◌, ◌++◌, Option, Some, None, length, codes, nat_le}
-use Rattle.std.specs.List.{flat_map, list_all}
+use Rattle.std.specs.List.{list_all}
 use Rattle.smack_base.specs.declared.modes.Modes.{Modes}
 use Rattle.smack_base.specs.Labels.{is_label}
 use Rattle.smack_base.specs.Modes.{letters_of}
@@ -7,7 +7,6 @@ use Rattle.smack_base.specs.Paths.{is_name_byte}
 use Rattle.rules_spec.specs.declared.Verdict.{Verdict}
 use Rattle.rules_spec.specs.Rulings.{Ruling}
 use Rattle.log_spec.specs.declared.Action.{Action}
-use Rattle.log_spec.specs.declared.Action.TheVariants as Action
 use Rattle.log_spec.specs.Numerals.{numeral}
 use Rattle.log_spec.specs.Words.{line, name_at}
 
@@ -76,11 +75,3 @@ audited labels verb v action = record {
 -- what the system's log says of a check
 abbrev pub audit_line : List (List ℕ) → List ℕ → Verdict → Action → List ℕ
 audit_line labels verb v action = audit_text (audited labels verb v action)
-
-abbrev pub line_of_action : List (List ℕ) → List ℕ → Verdict → Option Action → List (List ℕ)
-line_of_action labels verb v None = []
-line_of_action labels verb v (Some action) = audit_line labels verb v action ∷ []
-
--- what the system's log says of the checks of a call, in their order, by what each is logged as
-abbrev pub audit_lines : List (List ℕ) → (Verdict → Option Action) → List ℕ → List Verdict → List (List ℕ)
-audit_lines labels action verb checks = flat_map (λ v. line_of_action labels verb v (action v)) checks

@@ -1,8 +1,7 @@
 use Rattle.std.specs.Prelude.{ℕ, ◌==◌, if◌then◌else◌, List, [], ◌∷◌, ◌++◌, codes, slice_index_or}
 use Rattle.std.specs.List.{flat_map}
-use Rattle.smack_base.specs.declared.modes.Modes.{Modes}
 use Rattle.smack_base.specs.declared.ids.LabelId.{LabelId}
-use Rattle.smack_base.specs.Modes.{letters_of}
+use Rattle.smack_base.specs.declared.ids.Pid.{Pid}
 use Rattle.rules_spec.specs.declared.Verdict.{Verdict}
 use Rattle.log_spec.specs.Numerals.{numeral}
 
@@ -25,16 +24,16 @@ line first more = first ++ words more ++ feed
 abbrev pub name_at : List (List ℕ) → LabelId → List ℕ
 name_at labels id = slice_index_or labels id.0 []
 
+-- the name of a pid
+abbrev pub task_name : List (List ℕ) → Pid → List ℕ
+task_name names pid = slice_index_or names pid.0 []
+
 -- the task and the number of a call, parted by a dot
 abbrev pub call_number : ℕ → ℕ → List ℕ
 call_number task seq = numeral task ++ codes "." ++ numeral seq
 
 abbrev pub version_word : ℕ → List ℕ
 version_word version = codes "v" ++ numeral version
-
--- subject, object and modes
-abbrev pub triple : List (List ℕ) → LabelId → LabelId → Modes → List (List ℕ)
-triple labels s o m = name_at labels s ∷ name_at labels o ∷ letters_of m ∷ []
 
 -- the denying case that an answer went over, where there is one
 abbrev pub over_words : ℕ → List (List ℕ)

@@ -2,7 +2,8 @@
 //!
 //! `Numerals` is how a number is written. `Words` says how a line is made of words, and the words
 //! that stand in many lines: labels, call numbers, versions, decisions. `Audits` says which checks
-//! the system's log tells of, and in which line.
+//! the system's log tells of, and in which line. `Shown` says of what a line of a record is made
+//! before labels and names of tasks are spelled: plain words, label ids and pids.
 #![tactic(auto)]
 
 ghost use Rattle.log_spec.specs.Numerals.{NumeralsTell};

@@ -1,25 +1,18 @@
 use Rattle.std.specs.Prelude.{ℕ, List, [], ◌∷◌, ◌++◌, Option, length, map, codes}
 use Rattle.std.specs.List.{flat_map}
 use Rattle.smack_base.specs.declared.cap.Cap.{Cap}
-use Rattle.smack_base.specs.declared.cap.Cap.TheVariants as Cap
 use Rattle.smack_base.specs.declared.rule_op.Pair.{Pair}
 use Rattle.rules_spec.specs.declared.Verdict.{Verdict}
 use Rattle.world_spec.specs.declared.TaskCall.{TaskCall}
-use Rattle.world_spec.specs.declared.TaskCall.TheVariants as TaskCall
 use Rattle.world_spec.specs.declared.TreeCall.{TreeCall}
-use Rattle.world_spec.specs.declared.TreeCall.TheVariants as TreeCall
 use Rattle.world_spec.specs.declared.Call.{Call}
-use Rattle.world_spec.specs.declared.Call.TheVariants as Call
 use Rattle.world_spec.specs.declared.Why.{Why}
-use Rattle.world_spec.specs.declared.Why.TheVariants as Why
 use Rattle.world_spec.specs.declared.Reply.{Reply}
-use Rattle.world_spec.specs.declared.Reply.TheVariants as Reply
 use Rattle.world_spec.specs.declared.Entry.{Entry}
 use Rattle.log_spec.specs.declared.Action.{Action}
 use Rattle.log_spec.specs.Numerals.{numeral}
-use Rattle.log_spec.specs.Words.{line, name_at, call_number, version_word, triple, decision}
-use Rattle.log_spec.specs.Audits.{audit_lines}
-use Rattle.record_spec.specs.Tasks.{task_name}
+use Rattle.log_spec.specs.Words.{call_number, version_word, decision}
+use Rattle.log_spec.specs.Shown.{Shown, Plain, LabelAt, NameOf, plain_words, triple, PrintedLine, Says, audit_lines}
 
 -- a path: each of its names behind a slash, and the root as one slash
 abbrev pub path_text : List (List ℕ) → List ℕ
@@ -55,43 +48,43 @@ call_verb (Call.Task call) = task_verb call
 call_verb (Call.Tree call) = tree_verb call
 
 -- the words of self rules, one after the other
-abbrev pub rule_words : List (List ℕ) → List Pair → List (List ℕ)
-rule_words labels rules = flat_map (λ p. triple labels p.s p.o p.m) rules
+abbrev pub rule_words : List Pair → List Shown
+rule_words rules = flat_map (λ p. triple p.s p.o p.m) rules
 
--- the words of a call behind its verb, by the texts of the labels and the names of the tasks
-abbrev pub task_words : List (List ℕ) → List (List ℕ) → TaskCall → List (List ℕ)
-task_words labels names (TaskCall.Fork pid) = task_name names pid ∷ []
-task_words labels names TaskCall.Exit = []
-task_words labels names (TaskCall.Relabel l) = name_at labels l ∷ []
-task_words labels names (TaskCall.DropCap cap) = cap_text cap ∷ []
-task_words labels names (TaskCall.SelfRules rules) = numeral (length rules) ∷ rule_words labels rules
-task_words labels names (TaskCall.Relabels list) = numeral (length list) ∷ map (name_at labels) list
-task_words labels names (TaskCall.Kill pid sig) = task_name names pid ∷ numeral sig ∷ []
-task_words labels names TaskCall.Take = []
-task_words labels names (TaskCall.TraceRead pid) = codes "read" ∷ task_name names pid ∷ []
-task_words labels names (TaskCall.TraceAttach pid) = codes "attach" ∷ task_name names pid ∷ []
+-- the words of a call behind its verb
+abbrev pub task_words : TaskCall → List Shown
+task_words (TaskCall.Fork pid) = NameOf pid ∷ []
+task_words TaskCall.Exit = []
+task_words (TaskCall.Relabel l) = LabelAt l ∷ []
+task_words (TaskCall.DropCap cap) = Plain (cap_text cap) ∷ []
+task_words (TaskCall.SelfRules rules) = Plain (numeral (length rules)) ∷ rule_words rules
+task_words (TaskCall.Relabels list) = Plain (numeral (length list)) ∷ map LabelAt list
+task_words (TaskCall.Kill pid sig) = NameOf pid ∷ Plain (numeral sig) ∷ []
+task_words TaskCall.Take = []
+task_words (TaskCall.TraceRead pid) = Plain (codes "read") ∷ NameOf pid ∷ []
+task_words (TaskCall.TraceAttach pid) = Plain (codes "attach") ∷ NameOf pid ∷ []
 
-abbrev pub tree_words : TreeCall → List (List ℕ)
-tree_words (TreeCall.Create path) = path_text path ∷ []
-tree_words (TreeCall.Unlink path) = path_text path ∷ []
-tree_words (TreeCall.ListDir path at) = path_text path ∷ numeral at ∷ []
+abbrev pub tree_words : TreeCall → List Shown
+tree_words (TreeCall.Create path) = Plain (path_text path) ∷ []
+tree_words (TreeCall.Unlink path) = Plain (path_text path) ∷ []
+tree_words (TreeCall.ListDir path at) = Plain (path_text path) ∷ Plain (numeral at) ∷ []
 
-abbrev pub call_words : List (List ℕ) → List (List ℕ) → Call → List (List ℕ)
-call_words labels names (Call.Task call) = task_words labels names call
-call_words labels names (Call.Tree call) = tree_words call
+abbrev pub call_words : Call → List Shown
+call_words (Call.Task call) = task_words call
+call_words (Call.Tree call) = tree_words call
 
 -- a call as words, the verb first
-abbrev pub verb_words : List (List ℕ) → List (List ℕ) → Call → List (List ℕ)
-verb_words labels names call = call_verb call ∷ call_words labels names call
+abbrev pub verb_words : Call → List Shown
+verb_words call = Plain (call_verb call) ∷ call_words call
 
 -- the call, its place among all calls, and the version that it was judged in
-abbrev pub entry_head : List (List ℕ) → List (List ℕ) → ℕ → Entry → List ℕ
-entry_head labels names place e =
-    line (codes "h") (numeral place ∷ call_number e.task e.seq ∷ version_word e.version ∷ verb_words labels names e.call)
+abbrev pub entry_head : ℕ → Entry → PrintedLine
+entry_head place e =
+    Says (codes "h") (Plain (numeral place) ∷ Plain (call_number e.task e.seq) ∷ Plain (version_word e.version) ∷ verb_words e.call)
 
 -- a verdict that was asked
-abbrev pub check_line : List (List ℕ) → Verdict → List ℕ
-check_line labels v = line (codes "c") (triple labels v.subject v.object v.modes ++ decision v)
+abbrev pub check_line : Verdict → PrintedLine
+check_line v = Says (codes "c") (triple v.subject v.object v.modes ++ plain_words (decision v))
 
 -- why a call was refused
 abbrev pub why_text : Why → List ℕ
@@ -109,19 +102,18 @@ why_text (Why.RelabelFull limit) = codes "relabel-full"
 why_text (Why.TreeFull limit) = codes "tree-full"
 
 -- the answer to a call
-abbrev pub reply_words : Reply → List (List ℕ)
-reply_words Reply.Ok = codes "ok" ∷ []
-reply_words (Reply.Child k) = codes "child" ∷ numeral k ∷ []
-reply_words (Reply.Signal sig) = codes "signal" ∷ numeral sig ∷ []
-reply_words (Reply.Names count names) = codes "names" ∷ numeral count ∷ numeral (length names) ∷ names
-reply_words (Reply.Denied case) = codes "denied" ∷ numeral case ∷ []
-reply_words (Reply.Refused why) = why_text why ∷ []
+abbrev pub reply_words : Reply → List Shown
+reply_words Reply.Ok = Plain (codes "ok") ∷ []
+reply_words (Reply.Child k) = Plain (codes "child") ∷ Plain (numeral k) ∷ []
+reply_words (Reply.Signal sig) = Plain (codes "signal") ∷ Plain (numeral sig) ∷ []
+reply_words (Reply.Names count names) = Plain (codes "names") ∷ Plain (numeral count) ∷ Plain (numeral (length names)) ∷ plain_words names
+reply_words (Reply.Denied case) = Plain (codes "denied") ∷ Plain (numeral case) ∷ []
+reply_words (Reply.Refused why) = Plain (why_text why) ∷ []
 
-abbrev pub reply_line : Reply → List ℕ
-reply_line reply = line (codes "=") (reply_words reply)
+abbrev pub reply_line : Reply → PrintedLine
+reply_line reply = Says (codes "=") (reply_words reply)
 
 -- a call, its checks, what the system's log says of them, by what each is logged as, and its reply
-abbrev pub entry_lines : List (List ℕ) → List (List ℕ) → (Verdict → Option Action) → ℕ → Entry → List (List ℕ)
-entry_lines labels names action place e =
-    entry_head labels names place e ∷ map (check_line labels) e.checks ++ audit_lines labels action (call_verb e.call) e.checks
-    ++ reply_line e.reply ∷ []
+abbrev pub entry_lines : (Verdict → Option Action) → ℕ → Entry → List PrintedLine
+entry_lines action place e =
+    entry_head place e ∷ map check_line e.checks ++ audit_lines action (call_verb e.call) e.checks ++ reply_line e.reply ∷ []

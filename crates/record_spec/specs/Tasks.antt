@@ -1,12 +1,9 @@
-use Rattle.std.specs.Prelude.{ℕ, ◌==◌, if◌then◌else◌, List, [], ◌∷◌, Option, Some, None, fold, nat_lt, slice_index_or}
+use Rattle.std.specs.Prelude.{ℕ, ◌==◌, if◌then◌else◌, List, [], ◌∷◌, Option, Some, None, fold, nat_lt}
 use Rattle.std.specs.List.{list_any, insert, position_or_len}
 use Rattle.smack_base.specs.declared.ids.Pid.{Pid}
 use Rattle.world_spec.specs.declared.TaskCall.{TaskCall}
-use Rattle.world_spec.specs.declared.TaskCall.TheVariants as TaskCall
 use Rattle.world_spec.specs.declared.Call.{Call}
-use Rattle.world_spec.specs.declared.Call.TheVariants as Call
 use Rattle.world_spec.specs.declared.Reply.{Reply}
-use Rattle.world_spec.specs.declared.Reply.TheVariants as Reply
 use Rattle.world_spec.specs.declared.Entry.{Entry}
 use Rattle.record_spec.specs.declared.NumberedTask.{NumberedTask}
 
@@ -61,7 +58,3 @@ first_task = record { number = 0; pid = record { 0 = 0 } }
 -- the tasks of a run by rising number: the first, and those that its entries made
 abbrev pub run_tasks : List Entry → List NumberedTask
 run_tasks history = fold (λ tasks e. with_child tasks (child_of e)) (first_task ∷ []) history
-
--- the name of a pid
-abbrev pub task_name : List (List ℕ) → Pid → List ℕ
-task_name names pid = slice_index_or names pid.0 []

@@ -1,10 +1,13 @@
 //! What records mean: all that a run leaves, and its text. Plain data; the definitions stand in
 //! `specs/`.
 //!
-//! `Tasks` reads off the object calls which tasks a run had. `Show` is the text of a record, line by
-//! line, `Entries` that of an object call with its checks, the lines of the system's log and its
-//! reply, and `Refusals` that of a refused write.
+//! `Tasks` reads off the object calls which tasks a run had. `Show` is the lines of a record, and its
+//! text, which spells them; `Entries` is those of an object call with its checks, the lines of the
+//! system's log and its reply, and `Refusals` the words of a refused write. `WorkedRecord` is a worked
+//! record.
 #![tactic(auto)]
+
+ghost use Rattle.record_spec.specs.WorkedRecord.{ShowsInOrder};
 
 use file_spec::Refusal;
 use label_table::Labels;
@@ -87,3 +90,9 @@ pub struct NumberedTask {
     /// The caller's name for it.
     pub pid: Pid,
 }
+
+/// The law: which labels and which tasks the text of a worked record shows, in their order.
+#[tactic(auto, using(crate::proofs::WorkedRecord::shows_in_order))]
+pub fn worked_record_shows_in_order()
+    ensures { ShowsInOrder }
+{}

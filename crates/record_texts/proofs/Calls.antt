@@ -2,7 +2,6 @@ use Rattle.std.proofs.Common.{◌≡◌, ℕ, true, if◌then◌else◌, length,
 use Rattle.std.specs.List.{AllByRecursion}
 use Rattle.smack_base.specs.Modes.{modes_of}
 use Rattle.smack_base.specs.declared.cap.Cap.{Cap}
-use Rattle.smack_base.specs.declared.cap.Cap.TheVariants as Cap
 use Rattle.smack_base.specs.declared.ids.LabelId.{LabelId}
 use Rattle.smack_base.specs.declared.rule_op.Pair.{Pair}
 use Rattle.script_spec.specs.declared.TraceWay.TheVariants as TraceWay
@@ -11,8 +10,7 @@ use Rattle.script_spec.specs.Lines.{ScriptLine}
 use Rattle.world_spec.specs.declared.TaskCall.TheVariants as TaskCall
 use Rattle.world_spec.specs.declared.TreeCall.TheVariants as TreeCall
 use Rattle.world_spec.specs.declared.Call.{Call}
-use Rattle.world_spec.specs.declared.Call.TheVariants as Call
-use Rattle.log_spec.specs.Words.{name_at}
+use Rattle.log_spec.specs.Shown.{LabelAt, spelled}
 use Rattle.log_spec.specs.Audits.{is_word}
 use Rattle.record_spec.specs.Entries.{cap_text, rule_words, call_verb, call_words, verb_words}
 use Rattle.replay_spec.specs.Calls.{of_one, of_two, traced, call_of_line}
@@ -46,9 +44,9 @@ call_in labels names ws =
 
 -- a call is read back from its words: the verb is a word, and the others have no space and no line feed
 pub record IsToldCall (labels names : List (List ℕ)) (call : Call) : Type 0 where
-  pub again : call_in labels names (verb_words labels names call) ≡ Some call
+  pub again : call_in labels names (spelled labels names (verb_words call)) ≡ Some call
   pub verb : is_word (call_verb call) ≡ true
-  pub words : AreClean (call_words labels names call)
+  pub words : AreClean (spelled labels names (call_words call))
 
 cap_again : (cap : Cap) → cap_of (cap_text cap) ≡ Some cap
 cap_again Cap.MacAdmin = refl
@@ -61,22 +59,22 @@ cap_clean Cap.MacOverride = refl
 cap_clean Cap.SysPtrace = refl
 
 module _ (labels names : List (List ℕ)) (table : IsLabelTable labels) (tasks : IsNameTable names) where
-  rules_read : (rules : List Pair) → AllByRecursion (IsKnownPair labels) rules → rules_in labels (rule_words labels rules) ≡ rules
+  rules_read : (rules : List Pair) → AllByRecursion (IsKnownPair labels) rules → rules_in labels (spelled labels names (rule_words rules)) ≡ rules
   rules_read [] known = refl
   rules_read (p ∷ ps) known =
       λ i. (record { s = label_read labels table p.s known.0.0 i; o = label_read labels table p.o known.0.1 i; m = modes_read p.m i })
       ∷ rules_read ps known.1 i
 
-  rules_clean : (rules : List Pair) → AllByRecursion (IsKnownPair labels) rules → AreClean (rule_words labels rules)
+  rules_clean : (rules : List Pair) → AllByRecursion (IsKnownPair labels) rules → AreClean (spelled labels names (rule_words rules))
   rules_clean [] known = tt
   rules_clean (p ∷ ps) known =
       (name_clean labels table p.s known.0.0, (name_clean labels table p.o known.0.1, (modes_clean p.m, rules_clean ps known.1)))
 
-  labels_read : (list : List LabelId) → AllByRecursion (HasId labels) list → map (label_in labels) (map (name_at labels) list) ≡ list
+  labels_read : (list : List LabelId) → AllByRecursion (HasId labels) list → map (label_in labels) (spelled labels names (map LabelAt list)) ≡ list
   labels_read [] known = refl
   labels_read (l ∷ ls) known = λ i. label_read labels table l known.0 i ∷ labels_read ls known.1 i
 
-  labels_clean : (list : List LabelId) → AllByRecursion (HasId labels) list → AreClean (map (name_at labels) list)
+  labels_clean : (list : List LabelId) → AllByRecursion (HasId labels) list → AreClean (spelled labels names (map LabelAt list))
   labels_clean [] known = tt
   labels_clean (l ∷ ls) known = (name_clean labels table l known.0, labels_clean ls known.1)
 
@@ -143,13 +141,13 @@ module _ (labels names : List (List ℕ)) (table : IsLabelTable labels) (tasks :
   pub plain_is_told : (call : Call) → IsPlainCall labels names call → IsToldCall labels names call
   plain_is_told call plain = read_is_told call (plain_is_read labels names call plain)
 
-  pub call_clean : (call : Call) → IsPlainCall labels names call → AreClean (verb_words labels names call)
+  pub call_clean : (call : Call) → IsPlainCall labels names call → AreClean (spelled labels names (verb_words call))
   call_clean call plain =
       let told = plain_is_told call plain in
       (name_bytes_clean (call_verb call) (word_bytes (call_verb call) told.verb), told.words)
 
   -- the words of a call tell it
-  pub call_told : (x y : Call) → IsPlainCall labels names x → IsPlainCall labels names y → verb_words labels names x ≡ verb_words labels names y
+  pub call_told : (x y : Call) → IsPlainCall labels names x → IsPlainCall labels names y → spelled labels names (verb_words x) ≡ spelled labels names (verb_words y)
       → x ≡ y
   call_told x y plain plain' same =
-      told_where_read (call_in labels names) (verb_words labels names) x y (plain_is_told x plain).again (plain_is_told y plain').again same
+      told_where_read (call_in labels names) (λ call. spelled labels names (verb_words call)) x y (plain_is_told x plain).again (plain_is_told y plain').again same

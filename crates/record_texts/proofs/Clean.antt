@@ -1,10 +1,12 @@
-use Rattle.std.proofs.Common.{◌≡◌, ◌≤◌, ℕ, Bool, true, false, ◌&&◌, ◌||◌, ◌==◌, nat_le, length, List, [], ◌∷◌, ◌++◌, refl, arith}
+use Rattle.std.proofs.Common.{◌≡◌, ◌≤◌, ℕ, Bool, true, false, ◌&&◌, ◌||◌, ◌==◌, nat_le, length, List, [], ◌∷◌, ◌++◌, refl, sym, subst, arith}
 use Rattle.std.specs.List.{AllByRecursion, list_all}
 use Rattle.std.proofs.lemmas.Bool.{and_parts, and_from, leb-true, le-leb, eqb-true}
 use Rattle.smack_base.specs.Labels.{is_label}
 use Rattle.smack_base.specs.Paths.{is_name_byte}
 use Rattle.script_spec.specs.Words.{is_digit, is_task_byte, is_task_name}
 use Rattle.log_spec.specs.Audits.{is_word}
+use Rattle.log_spec.specs.Shown.{plain_words, spelled}
+use Rattle.log_spec.proofs.Spelling.{plain_spelled}
 use Rattle.log_spec.proofs.PrintedBytes.{all_weaker, label_bytes}
 
 -- no byte of a text is below this one
@@ -32,6 +34,10 @@ above_behind low (b ∷ bs) back first second =
 
 pub clean_behind : (front back : List ℕ) → is_clean front ≡ true → is_clean back ≡ true → is_clean (front ++ back) ≡ true
 clean_behind front back first second = above_behind 33 front back first second
+
+-- plain words, spelled
+pub plain_clean : (labels names texts : List (List ℕ)) → AreClean texts → AreClean (spelled labels names (plain_words texts))
+plain_clean labels names texts clean = subst AreClean (sym (plain_spelled labels names texts)) clean
 
 -- words of bytes from ! to ~
 pub name_bytes_clean : (text : List ℕ) → list_all is_name_byte text ≡ true → is_clean text ≡ true

@@ -2,14 +2,14 @@ use Rattle.std.proofs.Common.{◌≡◌, ℕ, true, drop, length, codes, if◌th
 use Rattle.std.specs.List.{AllByRecursion}
 use Rattle.rules_spec.specs.Creds.{most_self_rules, most_relabels}
 use Rattle.world_spec.specs.declared.Why.{Why}
-use Rattle.world_spec.specs.declared.Why.TheVariants as Why
 use Rattle.world_spec.specs.declared.Reply.{Reply}
-use Rattle.world_spec.specs.declared.Reply.TheVariants as Reply
 use Rattle.world_spec.specs.Worlds.{most_tasks, most_nodes}
 use Rattle.log_spec.specs.Audits.{is_word}
+use Rattle.log_spec.specs.Shown.{spelled, spell_line}
+use Rattle.log_spec.proofs.Spelling.{plain_spelled}
 use Rattle.record_spec.specs.Entries.{reply_words, reply_line}
 use Rattle.replay_spec.specs.Plain.{IsPlainWhy, IsPlainReply}
-use Rattle.record_texts.proofs.Clean.{AreClean, name_bytes_clean, word_bytes}
+use Rattle.record_texts.proofs.Clean.{AreClean, plain_clean, name_bytes_clean, word_bytes}
 use Rattle.record_texts.proofs.Cut.{cut_line}
 use Rattle.record_texts.proofs.Turns.{Tells}
 use Rattle.record_texts.proofs.Numbers.{number_in, number_read, numeral_clean}
@@ -41,43 +41,47 @@ reply_in ws =
     else (if begins_with (codes "denied") ws then Reply.Denied (number_in (word_at 1 ws))
     else Reply.Refused (why_in ws)))))
 
--- a reply is read back from its words, which have no space and no line feed
-record IsToldReply (reply : Reply) : Type 0 where
-  again : reply_in (reply_words reply) ≡ reply
-  words : AreClean (reply_words reply)
-
 words_clean : (texts : List (List ℕ)) → AllByRecursion (λ text. is_word text ≡ true) texts → AreClean texts
 words_clean [] are = tt
 words_clean (t ∷ ts) are = (name_bytes_clean t (word_bytes t are.0), words_clean ts are.1)
 
--- a row for each refusal, and for each reply
-refused_is_told : (why : Why) → IsPlainWhy why → IsToldReply (Reply.Refused why)
-refused_is_told Why.Exists plain = record { again = refl; words = (refl, tt) }
-refused_is_told Why.IsRoot plain = record { again = refl; words = (refl, tt) }
-refused_is_told Why.NotDirectory plain = record { again = refl; words = (refl, tt) }
-refused_is_told Why.NotPrivileged plain = record { again = refl; words = (refl, tt) }
-refused_is_told Why.NoSuchTask plain = record { again = refl; words = (refl, tt) }
-refused_is_told Why.NoSuchName plain = record { again = refl; words = (refl, tt) }
-refused_is_told Why.Range plain = record { again = refl; words = (refl, tt) }
-refused_is_told Why.Again plain = record { again = refl; words = (refl, tt) }
-refused_is_told (Why.TasksFull limit) plain = record { again = λ i. Reply.Refused (Why.TasksFull (sym plain i)); words = (refl, tt) }
-refused_is_told (Why.SelfFull limit) plain = record { again = λ i. Reply.Refused (Why.SelfFull (sym plain i)); words = (refl, tt) }
-refused_is_told (Why.RelabelFull limit) plain = record { again = λ i. Reply.Refused (Why.RelabelFull (sym plain i)); words = (refl, tt) }
-refused_is_told (Why.TreeFull limit) plain = record { again = λ i. Reply.Refused (Why.TreeFull (sym plain i)); words = (refl, tt) }
+module _ (labels names : List (List ℕ)) where
+  abbrev words_of_reply : Reply → List (List ℕ)
+  words_of_reply reply = spelled labels names (reply_words reply)
 
-reply_is_told : (reply : Reply) → IsPlainReply reply → IsToldReply reply
-reply_is_told Reply.Ok plain = record { again = refl; words = (refl, tt) }
-reply_is_told (Reply.Child k) plain = record { again = λ i. Reply.Child (number_read k i); words = (refl, (numeral_clean k, tt)) }
-reply_is_told (Reply.Signal sig) plain = record { again = λ i. Reply.Signal (number_read sig i); words = (refl, (numeral_clean sig, tt)) }
-reply_is_told (Reply.Names count names) plain = record {
-  again = λ i. Reply.Names (number_read count i) names;
-  words = (refl, (numeral_clean count, (numeral_clean (length names), words_clean names plain)));
-}
-reply_is_told (Reply.Denied case) plain = record { again = λ i. Reply.Denied (number_read case i); words = (refl, (numeral_clean case, tt)) }
-reply_is_told (Reply.Refused why) plain = refused_is_told why plain
+  -- a reply is read back from its words, which have no space and no line feed
+  record IsToldReply (reply : Reply) : Type 0 where
+    again : reply_in (words_of_reply reply) ≡ reply
+    words : AreClean (words_of_reply reply)
 
--- a printed reply tells it
-pub reply_told : Tells IsPlainReply (λ r. Unit {0}) reply_line
-reply_told x y r s plain plain' ends ends' same =
-    let cut = cut_line (codes "=") (reply_words x) (reply_words y) r s refl (reply_is_told x plain).words (reply_is_told y plain').words same in
-    (told reply_in reply_words x y (reply_is_told x plain).again (reply_is_told y plain').again cut.0, cut.1)
+  -- a row for each refusal, and for each reply
+  refused_is_told : (why : Why) → IsPlainWhy why → IsToldReply (Reply.Refused why)
+  refused_is_told Why.Exists plain = record { again = refl; words = (refl, tt) }
+  refused_is_told Why.IsRoot plain = record { again = refl; words = (refl, tt) }
+  refused_is_told Why.NotDirectory plain = record { again = refl; words = (refl, tt) }
+  refused_is_told Why.NotPrivileged plain = record { again = refl; words = (refl, tt) }
+  refused_is_told Why.NoSuchTask plain = record { again = refl; words = (refl, tt) }
+  refused_is_told Why.NoSuchName plain = record { again = refl; words = (refl, tt) }
+  refused_is_told Why.Range plain = record { again = refl; words = (refl, tt) }
+  refused_is_told Why.Again plain = record { again = refl; words = (refl, tt) }
+  refused_is_told (Why.TasksFull limit) plain = record { again = λ i. Reply.Refused (Why.TasksFull (sym plain i)); words = (refl, tt) }
+  refused_is_told (Why.SelfFull limit) plain = record { again = λ i. Reply.Refused (Why.SelfFull (sym plain i)); words = (refl, tt) }
+  refused_is_told (Why.RelabelFull limit) plain = record { again = λ i. Reply.Refused (Why.RelabelFull (sym plain i)); words = (refl, tt) }
+  refused_is_told (Why.TreeFull limit) plain = record { again = λ i. Reply.Refused (Why.TreeFull (sym plain i)); words = (refl, tt) }
+
+  reply_is_told : (reply : Reply) → IsPlainReply reply → IsToldReply reply
+  reply_is_told Reply.Ok plain = record { again = refl; words = (refl, tt) }
+  reply_is_told (Reply.Child k) plain = record { again = λ i. Reply.Child (number_read k i); words = (refl, (numeral_clean k, tt)) }
+  reply_is_told (Reply.Signal sig) plain = record { again = λ i. Reply.Signal (number_read sig i); words = (refl, (numeral_clean sig, tt)) }
+  reply_is_told (Reply.Names count listed) plain = record {
+    again = λ i. Reply.Names (number_read count i) (plain_spelled labels names listed i);
+    words = (refl, (numeral_clean count, (numeral_clean (length listed), plain_clean labels names listed (words_clean listed plain))));
+  }
+  reply_is_told (Reply.Denied case) plain = record { again = λ i. Reply.Denied (number_read case i); words = (refl, (numeral_clean case, tt)) }
+  reply_is_told (Reply.Refused why) plain = refused_is_told why plain
+
+  -- a printed reply tells it
+  pub reply_told : Tells IsPlainReply (λ r. Unit {0}) (λ reply. spell_line labels names (reply_line reply))
+  reply_told x y r s plain plain' ends ends' same =
+      let cut = cut_line (codes "=") (words_of_reply x) (words_of_reply y) r s refl (reply_is_told x plain).words (reply_is_told y plain').words same in
+      (told reply_in words_of_reply x y (reply_is_told x plain).again (reply_is_told y plain').again cut.0, cut.1)

@@ -7,8 +7,7 @@ use Rattle.smack_base.specs.declared.ids.Pid.{Pid}
 use Rattle.smack_base.specs.Labels.{is_label}
 use Rattle.text_spec.specs.Names.{IsLabelTable, place_of, id_of}
 use Rattle.script_spec.specs.Words.{is_task_name}
-use Rattle.log_spec.specs.Words.{name_at}
-use Rattle.record_spec.specs.Tasks.{task_name}
+use Rattle.log_spec.specs.Words.{name_at, task_name}
 use Rattle.replay_spec.specs.Calls.{pid_in}
 use Rattle.replay_spec.specs.Plain.{IsNameTable, HasId, HasPid}
 use Rattle.record_texts.proofs.Clean.{is_clean, label_clean, task_name_clean}

@@ -1,7 +1,9 @@
 use Rattle.std.proofs.Common.{◌≡◌, ℕ, ◌+◌, List, [], ◌∷◌, ◌++◌, map, refl, sym, ap, ◌∙◌, append_assoc}
 use Rattle.std.specs.List.{AllByRecursion}
-use Rattle.record_spec.specs.Show.{joined, lines_in_turn}
-use Rattle.record_spec.proofs.Joined.{joined-append}
+use Rattle.log_spec.specs.Words.{line}
+use Rattle.log_spec.specs.Shown.{Shown, PrintedLine, Says, spelled, spell_line}
+use Rattle.record_spec.specs.Show.{spelled_text, lines_in_turn}
+use Rattle.record_spec.proofs.Joined.{text-append}
 
 -- the texts of some items, each by its place
 abbrev pub turns : {X : Type 0} → (ℕ → X → List ℕ) → ℕ → List X → List ℕ
@@ -47,20 +49,23 @@ module _ {X : Type 0} (P : X → Type 0) (Ends : List ℕ → Type 0) (f : ℕ �
       let rest = turns_tell (place + 1) xs ys r s all.1 all'.1 ends ends' other other' item.1 in
       ((λ i. item.0 i ∷ rest.0 i), rest.1)
 
--- items of several lines
-pub lines_are_turns : {X : Type 0} (f : ℕ → X → List (List ℕ)) (place : ℕ) (xs : List X)
-    → joined (lines_in_turn f place xs) ≡ turns (λ n x. joined (f n x)) place xs
-lines_are_turns f place [] = refl
-lines_are_turns f place (x ∷ xs) =
-    joined-append (f place x) (lines_in_turn f (place + 1) xs) ∙ ap (λ t. joined (f place x) ++ t) (lines_are_turns f (place + 1) xs)
+module _ (labels names : List (List ℕ)) where
+  -- items of several lines
+  pub lines_are_turns : {X : Type 0} (f : ℕ → X → List PrintedLine) (place : ℕ) (xs : List X)
+      → spelled_text labels names (lines_in_turn f place xs) ≡ turns (λ n x. spelled_text labels names (f n x)) place xs
+  lines_are_turns f place [] = refl
+  lines_are_turns f place (x ∷ xs) =
+      text-append labels names (f place x) (lines_in_turn f (place + 1) xs)
+      ∙ ap (λ t. spelled_text labels names (f place x) ++ t) (lines_are_turns f (place + 1) xs)
 
--- items of one line
-pub each_is_turn : {X : Type 0} (f : X → List ℕ) (place : ℕ) (xs : List X) → joined (map f xs) ≡ turns (λ n x. f x) place xs
-each_is_turn f place [] = refl
-each_is_turn f place (x ∷ xs) = λ i. f x ++ each_is_turn f (place + 1) xs i
+  -- items of one line
+  pub each_is_turn : {X : Type 0} (f : X → PrintedLine) (place : ℕ) (xs : List X)
+      → spelled_text labels names (map f xs) ≡ turns (λ n x. spell_line labels names (f x)) place xs
+  each_is_turn f place [] = refl
+  each_is_turn f place (x ∷ xs) = λ i. spell_line labels names (f x) ++ each_is_turn f (place + 1) xs i
 
--- items of one line, by the words of the line
-pub mapped_turns : {X Y : Type 0} (f : Y → List ℕ) (words : X → Y) (place : ℕ) (xs : List X)
-    → joined (map (λ x. f (words x)) xs) ≡ turns (λ n y. f y) place (map words xs)
-mapped_turns f words place [] = refl
-mapped_turns f words place (x ∷ xs) = λ i. f (words x) ++ mapped_turns f words (place + 1) xs i
+  -- items of one line, by the words of the line
+  pub words_are_turns : {X : Type 0} (first : List ℕ) (words : X → List Shown) (place : ℕ) (xs : List X)
+      → spelled_text labels names (map (λ x. Says first (words x)) xs) ≡ turns (λ n ws. line first ws) place (map (λ x. spelled labels names (words x)) xs)
+  words_are_turns first words place [] = refl
+  words_are_turns first words place (x ∷ xs) = λ i. line first (spelled labels names (words x)) ++ words_are_turns first words (place + 1) xs i

@@ -4,11 +4,12 @@ use Rattle.std.proofs.lemmas.Bool.{eqb-true}
 use Rattle.smack_base.specs.Modes.{modes_of}
 use Rattle.rules_spec.specs.declared.Verdict.{Verdict}
 use Rattle.log_spec.specs.Numerals.{numeral}
-use Rattle.log_spec.specs.Words.{triple, over_words, decision}
+use Rattle.log_spec.specs.Words.{over_words, decision}
+use Rattle.log_spec.specs.Shown.{plain_words, triple, spelled, spell_line}
 use Rattle.record_spec.specs.Entries.{check_line}
 use Rattle.text_spec.specs.Names.{IsLabelTable}
 use Rattle.replay_spec.specs.Plain.{IsPlainVerdict}
-use Rattle.record_texts.proofs.Clean.{is_clean, AreClean}
+use Rattle.record_texts.proofs.Clean.{is_clean, AreClean, plain_clean}
 use Rattle.record_texts.proofs.Cut.{cut_line}
 use Rattle.record_texts.proofs.Turns.{Tells}
 use Rattle.record_texts.proofs.Numbers.{number_in, number_read, numeral_clean}
@@ -16,8 +17,8 @@ use Rattle.record_texts.proofs.Letters.{modes_read, modes_clean}
 use Rattle.record_texts.proofs.Told.{told, word_at, label_in, label_read, name_clean}
 
 -- the words of a verdict: subject, object and modes, and what was decided
-abbrev pub verdict_words : List (List ℕ) → Verdict → List (List ℕ)
-verdict_words labels v = triple labels v.subject v.object v.modes ++ decision v
+abbrev pub verdict_words : List (List ℕ) → List (List ℕ) → Verdict → List (List ℕ)
+verdict_words labels names v = spelled labels names (triple v.subject v.object v.modes ++ plain_words (decision v))
 
 -- the verdict that some words are
 abbrev pub verdict_in : List (List ℕ) → List (List ℕ) → Verdict
@@ -36,10 +37,11 @@ allowed_read true = refl
 allowed_read false = refl
 
 -- where no case is printed that was gone over, there is none
-over_read : (n : ℕ) → number_in (word_at 1 (over_words n)) ≡ n
-over_read n = by (n == 0) refl
+over_read : (labels names : List (List ℕ)) (n : ℕ) → number_in (word_at 1 (spelled labels names (plain_words (over_words n)))) ≡ n
+over_read labels names n = by (n == 0) refl
   where
-    by : (none : Bool) → (n == 0) ≡ none → number_in (word_at 1 (if none then [] else codes "over" ∷ numeral n ∷ [])) ≡ n
+    by : (none : Bool) → (n == 0) ≡ none
+        → number_in (word_at 1 (spelled labels names (plain_words (if none then [] else codes "over" ∷ numeral n ∷ [])))) ≡ n
     by true is = sym (eqb-true n 0 is)
     by false is = number_read n
 
@@ -58,26 +60,26 @@ over_clean n = by (n == 0)
 pub decision_clean : (v : Verdict) → AreClean (decision v)
 decision_clean v = (decided_clean v.allowed, (numeral_clean v.case, over_clean v.over))
 
-module _ (labels : List (List ℕ)) (table : IsLabelTable labels) where
+module _ (labels names : List (List ℕ)) (table : IsLabelTable labels) where
   -- a verdict is read back from its words
-  pub verdict_read : (v : Verdict) → IsPlainVerdict labels v → verdict_in labels (verdict_words labels v) ≡ v
+  pub verdict_read : (v : Verdict) → IsPlainVerdict labels v → verdict_in labels (verdict_words labels names v) ≡ v
   verdict_read v plain = λ i. record {
     allowed = allowed_read v.allowed i;
     case = number_read v.case i;
-    over = over_read v.over i;
+    over = over_read labels names v.over i;
     subject = label_read labels table v.subject plain.subject i;
     object = label_read labels table v.object plain.object i;
     modes = modes_read v.modes i;
   }
 
-  pub triple_clean : (v : Verdict) → IsPlainVerdict labels v → AreClean (triple labels v.subject v.object v.modes)
+  pub triple_clean : (v : Verdict) → IsPlainVerdict labels v → AreClean (spelled labels names (triple v.subject v.object v.modes))
   triple_clean v plain = (name_clean labels table v.subject plain.subject, (name_clean labels table v.object plain.object, (modes_clean v.modes, tt)))
 
-  verdict_clean : (v : Verdict) → IsPlainVerdict labels v → AreClean (verdict_words labels v)
-  verdict_clean v plain = let front = triple_clean v plain in (front.0, (front.1.0, (front.1.1.0, decision_clean v)))
+  verdict_clean : (v : Verdict) → IsPlainVerdict labels v → AreClean (verdict_words labels names v)
+  verdict_clean v plain = let front = triple_clean v plain in (front.0, (front.1.0, (front.1.1.0, plain_clean labels names (decision v) (decision_clean v))))
 
   -- a printed check tells it
-  pub check_told : Tells (IsPlainVerdict labels) (λ r. Unit {0}) (check_line labels)
+  pub check_told : Tells (IsPlainVerdict labels) (λ r. Unit {0}) (λ v. spell_line labels names (check_line v))
   check_told x y r s plain plain' ends ends' same =
-      let cut = cut_line (codes "c") (verdict_words labels x) (verdict_words labels y) r s refl (verdict_clean x plain) (verdict_clean y plain') same in
-      (told (verdict_in labels) (verdict_words labels) x y (verdict_read x plain) (verdict_read y plain') cut.0, cut.1)
+      let cut = cut_line (codes "c") (verdict_words labels names x) (verdict_words labels names y) r s refl (verdict_clean x plain) (verdict_clean y plain') same in
+      (told (verdict_in labels) (verdict_words labels names) x y (verdict_read x plain) (verdict_read y plain') cut.0, cut.1)

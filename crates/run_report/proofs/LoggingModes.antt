@@ -45,6 +45,6 @@ mode_is mode (b ∷ bs) (suc version) =
 
 -- the object calls are printed by the logging modes of their versions
 pub history_by_modes : (r : RunRecord)
-    → lines_in_turn (λ place e. entry_lines r.labels r.names (selected_as (mode_in (modes_from 1 r.journal) e.version)) place e) 1 r.history ≡ history_lines r
+    → lines_in_turn (λ place e. entry_lines (selected_as (mode_in (modes_from 1 r.journal) e.version)) place e) 1 r.history ≡ history_lines r
 history_by_modes r =
-    λ i. lines_in_turn (λ place e. entry_lines r.labels r.names (selected_as (mode_is 1 r.journal e.version i)) place e) 1 r.history
+    λ i. lines_in_turn (λ place e. entry_lines (selected_as (mode_is 1 r.journal e.version i)) place e) 1 r.history

@@ -1,10 +1,12 @@
 ghost use Rattle.std.specs.Prelude.{◌≡◌, ◌++◌, map, codes, OnOk};
 ghost use Rattle.std.specs.List.{flat_map};
-ghost use Rattle.log_spec.specs.Words.{word, words, name_at};
+ghost use Rattle.log_spec.specs.Words.{word, words};
+ghost use Rattle.log_spec.specs.Shown.{LabelAt, plain_words};
 ghost use Rattle.record_spec.specs.Entries.{path_text, cap_text as text_of_cap, task_verb as verb_of_task_call, tree_verb as verb_of_tree_call, call_verb as verb_of_call, rule_words, task_words, tree_words, verb_words, why_text as text_of_why, reply_words};
+ghost use Rattle.run_report.specs.Spelling.{words_by};
 
-use crate::words::{put_label, put_number, put_numbered, put_triple, put_word, task_name};
-use label_table::Labels;
+use crate::spelling::Spelling;
+use crate::words::{put_label, put_name, put_number, put_numbered, put_triple, put_word};
 use smack_base::{Bytes, Cap, LabelId, Pair, Path};
 use std::alloc::AllocError;
 use world_spec::{Call, Listing, Reply, TaskCall, TreeCall, Why};
@@ -21,8 +23,8 @@ fn put_slashed(out: &mut Vec<u8>, names: &[Bytes]) -> Result<(), AllocError>
 }
 
 /// The names of a listing, each a word.
-fn put_names(out: &mut Vec<u8>, names: &Listing) -> Result<(), AllocError>
-    ensures { OnOk result (out.new.items ≡ out.old.items ++ words names.now) }
+fn put_names(out: &mut Vec<u8>, _by: &Spelling, names: &Listing) -> Result<(), AllocError>
+    ensures { OnOk result (out.new.items ≡ out.old.items ++ words_by _by.now (plain_words names.now)) }
 {
     let mut left = names.names();
     while let Some(name) = left.next() {
@@ -90,62 +92,58 @@ pub fn call_verb(call: &Call) -> &'static [u8]
 }
 
 /// Self rules, three words each.
-fn put_rules(out: &mut Vec<u8>, labels: &Labels, rules: &[Pair]) -> Result<(), AllocError>
-    ensures { OnOk result (out.new.items ≡ out.old.items ++ words (rule_words labels.now rules.now)) }
+fn put_rules(out: &mut Vec<u8>, by: &Spelling, rules: &[Pair]) -> Result<(), AllocError>
+    ensures { OnOk result (out.new.items ≡ out.old.items ++ words_by by.now (rule_words rules.now)) }
 {
     for rule in rules {
-        put_triple(out, labels, rule.s, rule.o, rule.m)?;
+        put_triple(out, by, rule.s, rule.o, rule.m)?;
     }
     Ok(())
 }
 
-fn put_labels(out: &mut Vec<u8>, labels: &Labels, list: &[LabelId]) -> Result<(), AllocError>
-    ensures { OnOk result (out.new.items ≡ out.old.items ++ words (map (name_at labels.now) list.now)) }
+fn put_labels(out: &mut Vec<u8>, by: &Spelling, list: &[LabelId]) -> Result<(), AllocError>
+    ensures { OnOk result (out.new.items ≡ out.old.items ++ words_by by.now (map LabelAt list.now)) }
 {
     for l in list {
-        put_label(out, labels, *l)?;
+        put_label(out, by, *l)?;
     }
     Ok(())
 }
 
-fn put_task_words(
-    out: &mut Vec<u8>,
-    labels: &Labels,
-    names: &[Bytes],
-    call: &TaskCall,
-) -> Result<(), AllocError>
-    ensures { OnOk result (out.new.items ≡ out.old.items ++ words (task_words labels.now names.now call.now)) }
+fn put_task_words(out: &mut Vec<u8>, by: &Spelling, call: &TaskCall) -> Result<(), AllocError>
+    ensures { OnOk result (out.new.items ≡ out.old.items ++ words_by by.now (task_words call.now)) }
 {
     match call {
-        TaskCall::Fork { pid } => put_word(out, task_name(names, *pid)),
+        TaskCall::Fork { pid } => put_name(out, by, *pid),
         TaskCall::Exit => Ok(()),
-        TaskCall::Relabel { l } => put_label(out, labels, *l),
+        TaskCall::Relabel { l } => put_label(out, by, *l),
         TaskCall::DropCap { cap } => put_word(out, cap_text(*cap)),
         TaskCall::SelfRules { rules } => {
             put_number(out, rules.items().len() as u64)?;
-            put_rules(out, labels, rules.items())
+            put_rules(out, by, rules.items())
         }
         TaskCall::Relabels { labels: list } => {
             put_number(out, list.items().len() as u64)?;
-            put_labels(out, labels, list.items())
+            put_labels(out, by, list.items())
         }
         TaskCall::Kill { pid, sig } => {
-            put_numbered(out, task_name(names, *pid), u64::from(*sig))
+            put_name(out, by, *pid)?;
+            put_number(out, u64::from(*sig))
         }
         TaskCall::Take => Ok(()),
         TaskCall::TraceRead { pid } => {
             put_word(out, b"read")?;
-            put_word(out, task_name(names, *pid))
+            put_name(out, by, *pid)
         }
         TaskCall::TraceAttach { pid } => {
             put_word(out, b"attach")?;
-            put_word(out, task_name(names, *pid))
+            put_name(out, by, *pid)
         }
     }
 }
 
-fn put_tree_words(out: &mut Vec<u8>, call: &TreeCall) -> Result<(), AllocError>
-    ensures { OnOk result (out.new.items ≡ out.old.items ++ words (tree_words call.now)) }
+fn put_tree_words(out: &mut Vec<u8>, _by: &Spelling, call: &TreeCall) -> Result<(), AllocError>
+    ensures { OnOk result (out.new.items ≡ out.old.items ++ words_by _by.now (tree_words call.now)) }
 {
     match call {
         TreeCall::Create { path } => put_path(out, path),
@@ -158,18 +156,13 @@ fn put_tree_words(out: &mut Vec<u8>, call: &TreeCall) -> Result<(), AllocError>
 }
 
 /// The words of a call, its verb first.
-pub fn put_call(
-    out: &mut Vec<u8>,
-    labels: &Labels,
-    names: &[Bytes],
-    call: &Call,
-) -> Result<(), AllocError>
-    ensures { OnOk result (out.new.items ≡ out.old.items ++ words (verb_words labels.now names.now call.now)) }
+pub fn put_call(out: &mut Vec<u8>, by: &Spelling, call: &Call) -> Result<(), AllocError>
+    ensures { OnOk result (out.new.items ≡ out.old.items ++ words_by by.now (verb_words call.now)) }
 {
     put_word(out, call_verb(call))?;
     match call {
-        Call::Task(call) => put_task_words(out, labels, names, call),
-        Call::Tree(call) => put_tree_words(out, call),
+        Call::Task(call) => put_task_words(out, by, call),
+        Call::Tree(call) => put_tree_words(out, by, call),
     }
 }
 
@@ -193,8 +186,8 @@ fn why_text(why: Why) -> &'static [u8]
 }
 
 /// The words of a reply.
-pub fn put_reply(out: &mut Vec<u8>, reply: &Reply) -> Result<(), AllocError>
-    ensures { OnOk result (out.new.items ≡ out.old.items ++ words (reply_words reply.now)) }
+pub fn put_reply(out: &mut Vec<u8>, by: &Spelling, reply: &Reply) -> Result<(), AllocError>
+    ensures { OnOk result (out.new.items ≡ out.old.items ++ words_by by.now (reply_words reply.now)) }
 {
     match reply {
         Reply::Ok => put_word(out, b"ok"),
@@ -204,7 +197,7 @@ pub fn put_reply(out: &mut Vec<u8>, reply: &Reply) -> Result<(), AllocError>
             put_word(out, b"names")?;
             put_number(out, u64::from(*count))?;
             put_number(out, names.len() as u64)?;
-            put_names(out, names)
+            put_names(out, by, names)
         }
         Reply::Denied(case) => put_numbered(out, b"denied", u64::from(*case)),
         Reply::Refused(why) => put_word(out, why_text(*why)),

@@ -1,78 +1,74 @@
 ghost use Rattle.std.specs.Prelude.{◌≡◌, [], ◌∷◌, ◌++◌, map, OnOk};
-ghost use Rattle.log_spec.specs.Audits.{outcome, selected_as, audit_line, audit_lines};
+ghost use Rattle.log_spec.specs.Audits.{outcome, selected_as};
+ghost use Rattle.log_spec.specs.Shown.{Logs, audit_lines};
 ghost use Rattle.record_spec.specs.Entries.{entry_head, call_verb as verb_of_call, check_line as check_text, reply_line as reply_text, entry_lines as lines_of_entry};
+ghost use Rattle.run_report.specs.Spelling.{line_by, lines_by};
 
 use crate::calls::{call_verb, put_call, put_reply};
 use crate::page::Page;
+use crate::spelling::Spelling;
 use crate::words::{put_call_number, put_decision, put_number, put_triple, put_version};
 use audit_line::{put_line, selected};
-use label_table::Labels;
 use rules_spec::Verdict;
-use smack_base::Bytes;
 use std::alloc::AllocError;
 use world_spec::{Entry, Reply};
 
-fn entry_line(
-    page: &mut Page,
-    labels: &Labels,
-    names: &[Bytes],
-    place: u64,
-    entry: &Entry,
-) -> Result<(), AllocError>
-    ensures { OnOk result (page.new ≡ page.old ++ entry_head labels.now names.now place entry.now ∷ []) }
+fn entry_line(page: &mut Page, by: &Spelling, place: u64, entry: &Entry) -> Result<(), AllocError>
+    ensures { OnOk result (page.new ≡ page.old ++ line_by by.now (entry_head place entry.now) ∷ []) }
 {
     let mut out = page.begin(b"h")?;
     put_number(&mut out, place)?;
     put_call_number(&mut out, entry.task, entry.seq)?;
     put_version(&mut out, entry.version)?;
-    put_call(&mut out, labels, names, &entry.call)?;
+    put_call(&mut out, by, &entry.call)?;
     page.end(out)
 }
 
-fn check_line(page: &mut Page, labels: &Labels, v: &Verdict) -> Result<(), AllocError>
-    ensures { OnOk result (page.new ≡ page.old ++ check_text labels.now v.now ∷ []) }
+#[tactic(auto, using(log_spec::proofs::Spelling::plain_spelled))]
+fn check_line(page: &mut Page, by: &Spelling, v: &Verdict) -> Result<(), AllocError>
+    ensures { OnOk result (page.new ≡ page.old ++ line_by by.now (check_text v.now) ∷ []) }
 {
     let mut out = page.begin(b"c")?;
-    put_triple(&mut out, labels, v.subject, v.object, v.modes)?;
+    put_triple(&mut out, by, v.subject, v.object, v.modes)?;
     put_decision(&mut out, v)?;
     page.end(out)
 }
 
-fn check_lines(page: &mut Page, labels: &Labels, checks: &[Verdict]) -> Result<(), AllocError>
-    ensures { OnOk result (page.new ≡ page.old ++ map (check_text labels.now) checks.now) }
+fn check_lines(page: &mut Page, by: &Spelling, checks: &[Verdict]) -> Result<(), AllocError>
+    ensures { OnOk result (page.new ≡ page.old ++ lines_by by.now (map check_text checks.now)) }
 {
     for v in checks {
-        check_line(page, labels, v)?;
+        check_line(page, by, v)?;
     }
     Ok(())
 }
 
 /// What the system's log says of a check.
-fn logged_line(page: &mut Page, labels: &Labels, verb: &[u8], v: &Verdict) -> Result<(), AllocError>
-    ensures { OnOk result (page.new ≡ page.old ++ audit_line labels.now verb.now v.now (outcome v.now.allowed) ∷ []) }
+fn logged_line(page: &mut Page, by: &Spelling, verb: &[u8], v: &Verdict) -> Result<(), AllocError>
+    ensures { OnOk result (page.new ≡ page.old ++ line_by by.now (Logs verb.now v.now (outcome v.now.allowed)) ∷ []) }
 {
     let mut out = page.begin(b"")?;
-    put_line(&mut out, labels, verb, v)?;
+    put_line(&mut out, by.labels, verb, v)?;
     page.keep(out)
 }
 
-fn logged_lines(page: &mut Page, labels: &Labels, mode: u8, entry: &Entry) -> Result<(), AllocError>
-    ensures { OnOk result (page.new ≡ page.old ++ audit_lines labels.now (selected_as mode) (verb_of_call entry.now.call) entry.now.checks) }
+fn logged_lines(page: &mut Page, by: &Spelling, mode: u8, entry: &Entry) -> Result<(), AllocError>
+    ensures { OnOk result (page.new ≡ page.old ++ lines_by by.now (audit_lines (selected_as mode) (verb_of_call entry.now.call) entry.now.checks)) }
 {
     let verb = call_verb(&entry.call);
     for v in entry.checks.items() {
         if selected(mode, v.allowed) {
-            logged_line(page, labels, verb, v)?;
+            logged_line(page, by, verb, v)?;
         }
     }
     Ok(())
 }
 
-fn reply_line(page: &mut Page, reply: &Reply) -> Result<(), AllocError>
-    ensures { OnOk result (page.new ≡ page.old ++ reply_text reply.now ∷ []) }
+fn reply_line(page: &mut Page, by: &Spelling, reply: &Reply) -> Result<(), AllocError>
+    ensures { OnOk result (page.new ≡ page.old ++ line_by by.now (reply_text reply.now) ∷ []) }
 {
     let mut out = page.begin(b"=")?;
-    put_reply(&mut out, reply)?;
+    put_reply(&mut out, by, reply)?;
     page.end(out)
 }
 
@@ -80,16 +76,15 @@ fn reply_line(page: &mut Page, reply: &Reply) -> Result<(), AllocError>
 /// its reply.
 pub fn entry_lines(
     page: &mut Page,
-    labels: &Labels,
-    names: &[Bytes],
+    by: &Spelling,
     mode: u8,
     place: u64,
     entry: &Entry,
 ) -> Result<(), AllocError>
-    ensures { OnOk result (page.new ≡ page.old ++ lines_of_entry labels.now names.now (selected_as mode) place entry.now) }
+    ensures { OnOk result (page.new ≡ page.old ++ lines_by by.now (lines_of_entry (selected_as mode) place entry.now)) }
 {
-    entry_line(page, labels, names, place, entry)?;
-    check_lines(page, labels, entry.checks.items())?;
-    logged_lines(page, labels, mode, entry)?;
-    reply_line(page, &entry.reply)
+    entry_line(page, by, place, entry)?;
+    check_lines(page, by, entry.checks.items())?;
+    logged_lines(page, by, mode, entry)?;
+    reply_line(page, by, &entry.reply)
 }

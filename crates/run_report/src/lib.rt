@@ -17,6 +17,7 @@ mod page;
 mod printed;
 mod record;
 mod refusals;
+mod spelling;
 mod tasks;
 mod words;
 

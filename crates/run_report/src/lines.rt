@@ -1,62 +1,63 @@
 ghost use Rattle.std.specs.Prelude.{◌≡◌, ◌++◌, ◌∷◌, [], length, map, codes, OnOk};
 ghost use Rattle.log_spec.specs.Words.{words, line};
-ghost use Rattle.record_spec.specs.Tasks.{task_name as name_of_task};
+ghost use Rattle.log_spec.specs.Shown.{Says};
 ghost use Rattle.record_spec.specs.Show.{op_words, op_line as op_text, batch_head, batch_lines as lines_of_batch, asked_head, what_words, answer_words, asked_lines as lines_of_asked, task_line as task_text, task_lines as lines_of_tasks, head_lines as head_of_record, end_line as end_text};
+ghost use Rattle.run_report.specs.Spelling.{words_by, line_by, plain_line, lines_by};
 
 use crate::page::Page;
 use crate::refusals::put_refusal;
+use crate::spelling::Spelling;
 use crate::tasks::run_tasks;
 use crate::words::{
-    put_call_number, put_decision, put_label, put_modes, put_number, put_numbered, put_triple,
-    put_version, put_word, task_name,
+    put_call_number, put_decision, put_label, put_modes, put_name, put_number, put_numbered,
+    put_triple, put_version, put_word,
 };
-use label_table::Labels;
 use record_spec::{AskedLine, AskedWhat, NumberedTask, RunRecord};
 use rules_spec::Batch;
-use smack_base::{Bytes, RuleOp};
+use smack_base::RuleOp;
 use std::alloc::{AllocError, Global};
 
-fn put_op(out: &mut Vec<u8>, labels: &Labels, op: &RuleOp) -> Result<(), AllocError>
-    ensures { OnOk result (out.new.items ≡ out.old.items ++ words (op_words labels.now op.now)) }
+fn put_op(out: &mut Vec<u8>, by: &Spelling, op: &RuleOp) -> Result<(), AllocError>
+    ensures { OnOk result (out.new.items ≡ out.old.items ++ words_by by.now (op_words op.now)) }
 {
     match op {
         RuleOp::Set { s, o, m } => {
             put_word(out, b"set")?;
-            put_triple(out, labels, *s, *o, *m)
+            put_triple(out, by, *s, *o, *m)
         }
         RuleOp::Change { s, o, allow, deny } => {
             put_word(out, b"change")?;
-            put_triple(out, labels, *s, *o, *allow)?;
+            put_triple(out, by, *s, *o, *allow)?;
             put_modes(out, *deny)
         }
         RuleOp::Revoke { s } => {
             put_word(out, b"revoke")?;
-            put_label(out, labels, *s)
+            put_label(out, by, *s)
         }
         RuleOp::OnlyClear => put_word(out, b"only-clear"),
         RuleOp::OnlyAdd { l } => {
             put_word(out, b"only-add")?;
-            put_label(out, labels, *l)
+            put_label(out, by, *l)
         }
         RuleOp::Ambient { l } => {
             put_word(out, b"ambient")?;
-            put_label(out, labels, *l)
+            put_label(out, by, *l)
         }
         RuleOp::Ptrace { n } => put_numbered(out, b"ptrace", u64::from(*n)),
         RuleOp::Logging { n } => put_numbered(out, b"logging", u64::from(*n)),
     }
 }
 
-fn op_line(page: &mut Page, labels: &Labels, op: &RuleOp) -> Result<(), AllocError>
-    ensures { OnOk result (page.new ≡ page.old ++ op_text labels.now op.now ∷ []) }
+fn op_line(page: &mut Page, by: &Spelling, op: &RuleOp) -> Result<(), AllocError>
+    ensures { OnOk result (page.new ≡ page.old ++ line_by by.now (op_text op.now) ∷ []) }
 {
     let mut out = page.begin(b"o")?;
-    put_op(&mut out, labels, op)?;
+    put_op(&mut out, by, op)?;
     page.end(out)
 }
 
 fn batch_line(page: &mut Page, version: u64, batch: &Batch) -> Result<(), AllocError>
-    ensures { OnOk result (page.new ≡ page.old ++ batch_head version batch.now ∷ []) }
+    ensures { OnOk result (page.new ≡ page.old ++ plain_line (batch_head version batch.now) ∷ []) }
 {
     let mut out = page.begin(b"j")?;
     put_number(&mut out, version)?;
@@ -65,11 +66,11 @@ fn batch_line(page: &mut Page, version: u64, batch: &Batch) -> Result<(), AllocE
     page.end(out)
 }
 
-fn op_lines(page: &mut Page, labels: &Labels, ops: &[RuleOp]) -> Result<(), AllocError>
-    ensures { OnOk result (page.new ≡ page.old ++ map (op_text labels.now) ops.now) }
+fn op_lines(page: &mut Page, by: &Spelling, ops: &[RuleOp]) -> Result<(), AllocError>
+    ensures { OnOk result (page.new ≡ page.old ++ lines_by by.now (map op_text ops.now)) }
 {
     for op in ops {
-        op_line(page, labels, op)?;
+        op_line(page, by, op)?;
     }
     Ok(())
 }
@@ -77,29 +78,24 @@ fn op_lines(page: &mut Page, labels: &Labels, ops: &[RuleOp]) -> Result<(), Allo
 /// The lines of a batch that makes a version.
 pub fn batch_lines(
     page: &mut Page,
-    labels: &Labels,
+    by: &Spelling,
     version: u64,
     batch: &Batch,
 ) -> Result<(), AllocError>
-    ensures { OnOk result (page.new ≡ page.old ++ lines_of_batch labels.now version batch.now) }
+    ensures { OnOk result (page.new ≡ page.old ++ lines_by by.now (lines_of_batch version batch.now)) }
 {
     batch_line(page, version, batch)?;
-    op_lines(page, labels, batch.ops.items())
+    op_lines(page, by, batch.ops.items())
 }
 
 /// What was asked: a question, a write to a file, or the end of a task.
-fn put_what(
-    out: &mut Vec<u8>,
-    labels: &Labels,
-    names: &[Bytes],
-    what: &AskedWhat,
-) -> Result<(), AllocError>
-    ensures { OnOk result (out.new.items ≡ out.old.items ++ words (what_words labels.now names.now what.now)) }
+fn put_what(out: &mut Vec<u8>, by: &Spelling, what: &AskedWhat) -> Result<(), AllocError>
+    ensures { OnOk result (out.new.items ≡ out.old.items ++ words_by by.now (what_words what.now)) }
 {
     match what {
         AskedWhat::Ask(v) => {
             put_word(out, b"ask")?;
-            put_triple(out, labels, v.subject, v.object, v.modes)
+            put_triple(out, by, v.subject, v.object, v.modes)
         }
         AskedWhat::Refused { file, fault: _ } => {
             put_word(out, b"write")?;
@@ -107,7 +103,7 @@ fn put_what(
         }
         AskedWhat::Wait { pid } => {
             put_word(out, b"wait")?;
-            put_word(out, task_name(names, *pid))
+            put_name(out, by, *pid)
         }
     }
 }
@@ -123,19 +119,14 @@ fn put_answer(out: &mut Vec<u8>, what: &AskedWhat) -> Result<(), AllocError>
     }
 }
 
-fn question_line(
-    page: &mut Page,
-    labels: &Labels,
-    names: &[Bytes],
-    asked: &AskedLine,
-) -> Result<(), AllocError>
+fn question_line(page: &mut Page, by: &Spelling, asked: &AskedLine) -> Result<(), AllocError>
     ensures { OnOk result (page.new ≡ page.old
-        ++ line (codes "q") (asked_head asked.now ++ what_words labels.now names.now asked.now.what) ∷ []) }
+        ++ line_by by.now (Says (codes "q") (asked_head asked.now ++ what_words asked.now.what)) ∷ []) }
 {
     let mut out = page.begin(b"q")?;
     put_call_number(&mut out, asked.task, asked.seq)?;
     put_version(&mut out, asked.version)?;
-    put_what(&mut out, labels, names, &asked.what)?;
+    put_what(&mut out, by, &asked.what)?;
     page.end(out)
 }
 
@@ -148,49 +139,50 @@ fn answer_line(page: &mut Page, what: &AskedWhat) -> Result<(), AllocError>
 }
 
 /// The lines of an asked, refused or waited line and its answer.
-pub fn asked_lines(
-    page: &mut Page,
-    labels: &Labels,
-    names: &[Bytes],
-    asked: &AskedLine,
-) -> Result<(), AllocError>
-    ensures { OnOk result (page.new ≡ page.old ++ lines_of_asked labels.now names.now asked.now) }
+#[tactic(auto, using(log_spec::proofs::Spelling::plain_spelled))]
+pub fn asked_lines(page: &mut Page, by: &Spelling, asked: &AskedLine) -> Result<(), AllocError>
+    ensures { OnOk result (page.new ≡ page.old ++ lines_by by.now (lines_of_asked asked.now)) }
 {
-    question_line(page, labels, names, asked)?;
+    question_line(page, by, asked)?;
     answer_line(page, &asked.what)
 }
 
-fn task_line(page: &mut Page, number: u64, name: &[u8]) -> Result<(), AllocError>
-    ensures { OnOk result (page.new ≡ page.old ++ task_text number name.now ∷ []) }
+fn task_line(page: &mut Page, by: &Spelling, task: NumberedTask) -> Result<(), AllocError>
+    ensures { OnOk result (page.new ≡ page.old ++ line_by by.now (task_text task) ∷ []) }
 {
     let mut out = page.begin(b"task")?;
-    put_number(&mut out, number)?;
-    put_word(&mut out, name)?;
+    put_number(&mut out, u64::from(task.number))?;
+    put_name(&mut out, by, task.pid)?;
     page.end(out)
 }
 
-fn task_lines(page: &mut Page, names: &[Bytes], tasks: &[NumberedTask]) -> Result<(), AllocError>
-    ensures { OnOk result (page.new ≡ page.old ++ map (λ t. task_text t.number (name_of_task names.now t.pid)) tasks.now) }
+fn task_lines(page: &mut Page, by: &Spelling, tasks: &[NumberedTask]) -> Result<(), AllocError>
+    ensures { OnOk result (page.new ≡ page.old ++ lines_by by.now (map task_text tasks.now)) }
 {
     for task in tasks {
-        task_line(page, u64::from(task.number), task_name(names, task.pid))?;
+        task_line(page, by, *task)?;
     }
     Ok(())
 }
 
 /// The first lines of a record: its format, and its tasks.
-pub fn head_lines(page: &mut Page, alloc: Global, r: &RunRecord) -> Result<(), AllocError>
-    ensures { OnOk result (page.new ≡ page.old ++ head_of_record r.now) }
+pub fn head_lines(
+    page: &mut Page,
+    by: &Spelling,
+    alloc: Global,
+    r: &RunRecord,
+) -> Result<(), AllocError>
+    ensures { OnOk result (page.new ≡ page.old ++ lines_by by.now (head_of_record r.now)) }
 {
     let tasks = run_tasks(alloc, r.history.items())?;
     let out = page.begin(b"smack 1")?;
     page.end(out)?;
-    task_lines(page, r.names.items(), tasks.as_slice())
+    task_lines(page, by, tasks.as_slice())
 }
 
 /// The last line of a record.
 pub fn end_line(page: &mut Page, r: &RunRecord) -> Result<(), AllocError>
-    ensures { OnOk result (page.new ≡ page.old ++ end_text r.now ∷ []) }
+    ensures { OnOk result (page.new ≡ page.old ++ plain_line (end_text r.now) ∷ []) }
 {
     let mut out = page.begin(b"end")?;
     put_number(&mut out, r.journal.items().len() as u64)?;

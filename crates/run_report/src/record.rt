@@ -2,6 +2,7 @@ ghost use Rattle.std.specs.Prelude.{◌≡◌, ◌≢◌, ◌≤◌, ◌<◌, []
 ghost use Rattle.outside.specs.Faults.{Rose};
 ghost use Rattle.outside.specs.Sink.{Appends, AppendsFront};
 ghost use Rattle.run_report.specs.Modes.{modes_from};
+ghost use Rattle.run_report.specs.Spelling.{plain_line, lines_by};
 ghost use Rattle.record_spec.specs.Show.{joined, lines_in_turn, head_lines as lines_of_head, end_line as end_text, show};
 
 use crate::fault::ReportFault;
@@ -9,7 +10,7 @@ use crate::lines::{end_line, head_lines};
 use crate::modes::logging_modes;
 use crate::page::Page;
 use crate::printed::Printed;
-use label_table::Labels;
+use crate::spelling::Spelling;
 use outside::{Sink, SinkFault, offer};
 use record_spec::RunRecord;
 use smack_base::Bytes;
@@ -48,37 +49,35 @@ fn put_lines<K: Sink>(sink: &mut K, lines: &[Bytes]) -> Result<(), ReportFault>
 fn item_page<T: Printed>(
     page: &mut Page,
     item: &T,
-    labels: &Labels,
-    names: &[Bytes],
+    by: &Spelling,
     modes: &[u8],
     place: u64,
 ) -> Result<(), AllocError>
     requires { 0 < length modes.now }
-    ensures { OnOk result (page.new ≡ T.lines_of labels.now names.now modes.now place item.now) }
+    ensures { OnOk result (page.new ≡ lines_by by.now (T.lines_of modes.now place item.now)) }
 {
     page.clear()?;
-    item.put_lines(page, labels, names, modes, place)
+    item.put_lines(page, by, modes, place)
 }
 
 /// Writes the lines of items, of which the first has the place 1.
 fn put_items<K: Sink, T: Printed>(
     sink: &mut K,
     page: &mut Page,
-    labels: &Labels,
-    names: &[Bytes],
+    by: &Spelling,
     modes: &[u8],
     items: &[T],
 ) -> Result<(), ReportFault>
     requires { 0 < length modes.now }
-    ensures ok { OnOk result (Appends (K.taken sink.old) (K.taken sink.new) (joined (lines_in_turn (T.lines_of labels.now names.now modes.now) 1 items.now))) }
-    ensures err { OnErr result (AppendsFront (K.taken sink.old) (K.taken sink.new) (joined (lines_in_turn (T.lines_of labels.now names.now modes.now) 1 items.now))) }
+    ensures ok { OnOk result (Appends (K.taken sink.old) (K.taken sink.new) (joined (lines_by by.now (lines_in_turn (T.lines_of modes.now) 1 items.now)))) }
+    ensures err { OnErr result (AppendsFront (K.taken sink.old) (K.taken sink.new) (joined (lines_by by.now (lines_in_turn (T.lines_of modes.now) 1 items.now)))) }
     ensures later { K.faults sink.old ≤ K.faults sink.new }
     ensures failed { result ≡ Err ReportFault.Failed → Rose (K.faults sink.old) (K.faults sink.new) }
     ensures told { result ≢ Err ReportFault.Failed → K.faults sink.new ≡ K.faults sink.old }
 {
     for (i, item) in items.iter().enumerate() {
         let place = i as u64 + 1;
-        let Ok(()) = item_page(page, item, labels, names, modes, place) else {
+        let Ok(()) = item_page(page, item, by, modes, place) else {
             return Err(ReportFault::Memory);
         };
         put_lines(sink, page.lines())?;
@@ -86,15 +85,15 @@ fn put_items<K: Sink, T: Printed>(
     Ok(())
 }
 
-fn head_page(page: &mut Page, alloc: Global, r: &RunRecord) -> Result<(), AllocError>
-    ensures { OnOk result (page.new ≡ lines_of_head r.now) }
+fn head_page(page: &mut Page, by: &Spelling, alloc: Global, r: &RunRecord) -> Result<(), AllocError>
+    ensures { OnOk result (page.new ≡ lines_by by.now (lines_of_head r.now)) }
 {
     page.clear()?;
-    head_lines(page, alloc, r)
+    head_lines(page, by, alloc, r)
 }
 
 fn end_page(page: &mut Page, r: &RunRecord) -> Result<(), AllocError>
-    ensures { OnOk result (page.new ≡ end_text r.now ∷ []) }
+    ensures { OnOk result (page.new ≡ plain_line (end_text r.now) ∷ []) }
 {
     page.clear()?;
     end_line(page, r)
@@ -104,16 +103,17 @@ fn end_page(page: &mut Page, r: &RunRecord) -> Result<(), AllocError>
 fn put_head<K: Sink>(
     sink: &mut K,
     page: &mut Page,
+    by: &Spelling,
     alloc: Global,
     r: &RunRecord,
 ) -> Result<(), ReportFault>
-    ensures ok { OnOk result (Appends (K.taken sink.old) (K.taken sink.new) (joined (lines_of_head r.now))) }
-    ensures err { OnErr result (AppendsFront (K.taken sink.old) (K.taken sink.new) (joined (lines_of_head r.now))) }
+    ensures ok { OnOk result (Appends (K.taken sink.old) (K.taken sink.new) (joined (lines_by by.now (lines_of_head r.now)))) }
+    ensures err { OnErr result (AppendsFront (K.taken sink.old) (K.taken sink.new) (joined (lines_by by.now (lines_of_head r.now)))) }
     ensures later { K.faults sink.old ≤ K.faults sink.new }
     ensures failed { result ≡ Err ReportFault.Failed → Rose (K.faults sink.old) (K.faults sink.new) }
     ensures told { result ≢ Err ReportFault.Failed → K.faults sink.new ≡ K.faults sink.old }
 {
-    match head_page(page, alloc, r) {
+    match head_page(page, by, alloc, r) {
         Ok(()) => put_lines(sink, page.lines()),
         Err(_) => Err(ReportFault::Memory),
     }
@@ -121,8 +121,8 @@ fn put_head<K: Sink>(
 
 /// Writes the last line of a record.
 fn put_end<K: Sink>(sink: &mut K, page: &mut Page, r: &RunRecord) -> Result<(), ReportFault>
-    ensures ok { OnOk result (Appends (K.taken sink.old) (K.taken sink.new) (joined (end_text r.now ∷ []))) }
-    ensures err { OnErr result (AppendsFront (K.taken sink.old) (K.taken sink.new) (joined (end_text r.now ∷ []))) }
+    ensures ok { OnOk result (Appends (K.taken sink.old) (K.taken sink.new) (joined (plain_line (end_text r.now) ∷ []))) }
+    ensures err { OnErr result (AppendsFront (K.taken sink.old) (K.taken sink.new) (joined (plain_line (end_text r.now) ∷ []))) }
     ensures later { K.faults sink.old ≤ K.faults sink.new }
     ensures failed { result ≡ Err ReportFault.Failed → Rose (K.faults sink.old) (K.faults sink.new) }
     ensures told { result ≢ Err ReportFault.Failed → K.faults sink.new ≡ K.faults sink.old }
@@ -149,11 +149,14 @@ fn put_parts<K: Sink>(
     ensures told { result ≢ Err ReportFault.Failed → K.faults sink.new ≡ K.faults sink.old }
 {
     let mut page = Page::new(alloc);
-    let names = r.names.items();
-    put_head(sink, &mut page, alloc, r)?;
-    put_items(sink, &mut page, &r.labels, names, modes, r.journal.items())?;
-    put_items(sink, &mut page, &r.labels, names, modes, r.history.items())?;
-    put_items(sink, &mut page, &r.labels, names, modes, r.asked.items())?;
+    let by = Spelling {
+        labels: &r.labels,
+        names: r.names.items(),
+    };
+    put_head(sink, &mut page, &by, alloc, r)?;
+    put_items(sink, &mut page, &by, modes, r.journal.items())?;
+    put_items(sink, &mut page, &by, modes, r.history.items())?;
+    put_items(sink, &mut page, &by, modes, r.asked.items())?;
     put_end(sink, &mut page, r)
 }
 

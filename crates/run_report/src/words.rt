@@ -1,11 +1,12 @@
 ghost use Rattle.std.specs.Prelude.{◌≡◌, ◌++◌, ◌∷◌, [], OnOk};
 ghost use Rattle.smack_base.specs.Modes.{letters_of};
-ghost use Rattle.record_spec.specs.Tasks.{task_name as name_of_task};
 ghost use Rattle.log_spec.specs.Numerals.{numeral};
-ghost use Rattle.log_spec.specs.Words.{word, words, name_at, call_number, version_word, triple, over_words, decision};
+ghost use Rattle.log_spec.specs.Words.{word, words, name_at, task_name as name_of_task, call_number, version_word, over_words, decision};
+ghost use Rattle.log_spec.specs.Shown.{triple};
+ghost use Rattle.run_report.specs.Spelling.{words_by};
 
+use crate::spelling::Spelling;
 use itoa::Buffer;
-use label_table::Labels;
 use rules_spec::Verdict;
 use smack_base::{Bytes, LabelId, Modes, Pid};
 use std::alloc::AllocError;
@@ -44,20 +45,26 @@ pub fn put_numbered(out: &mut Vec<u8>, text: &[u8], n: u64) -> Result<(), AllocE
 }
 
 /// A label; a word of no bytes where the table does not have the id.
-pub fn put_label(out: &mut Vec<u8>, labels: &Labels, id: LabelId) -> Result<(), AllocError>
-    ensures { OnOk result (out.new.items ≡ out.old.items ++ word (name_at labels.now id)) }
+pub fn put_label(out: &mut Vec<u8>, by: &Spelling, id: LabelId) -> Result<(), AllocError>
+    ensures { OnOk result (out.new.items ≡ out.old.items ++ word (name_at by.now.labels.now id)) }
 {
-    put_word(out, labels.name_or_empty(id))
+    put_word(out, by.labels.name_or_empty(id))
 }
 
-/// The name of a task by its pid; a name of no bytes where there is none.
-pub fn task_name(names: &[Bytes], pid: Pid) -> &[u8]
+fn task_name(names: &[Bytes], pid: Pid) -> &[u8]
     ensures { result.now ≡ name_of_task names.now pid }
 {
     match names.get(usize::from(pid.0)) {
         Some(name) => name.items(),
         None => b"",
     }
+}
+
+/// The name of a task by its pid; a word of no bytes where there is none.
+pub fn put_name(out: &mut Vec<u8>, by: &Spelling, pid: Pid) -> Result<(), AllocError>
+    ensures { OnOk result (out.new.items ≡ out.old.items ++ word (name_of_task by.now.names.now pid)) }
+{
+    put_word(out, task_name(by.names, pid))
 }
 
 /// A mode set, as its letters or a dash.
@@ -70,15 +77,15 @@ pub fn put_modes(out: &mut Vec<u8>, m: Modes) -> Result<(), AllocError>
 /// A subject, an object and modes.
 pub fn put_triple(
     out: &mut Vec<u8>,
-    labels: &Labels,
+    by: &Spelling,
     s: LabelId,
     o: LabelId,
     m: Modes,
 ) -> Result<(), AllocError>
-    ensures { OnOk result (out.new.items ≡ out.old.items ++ words (triple labels.now s o m)) }
+    ensures { OnOk result (out.new.items ≡ out.old.items ++ words_by by.now (triple s o m)) }
 {
-    put_label(out, labels, s)?;
-    put_label(out, labels, o)?;
+    put_label(out, by, s)?;
+    put_label(out, by, o)?;
     put_modes(out, m)
 }
 

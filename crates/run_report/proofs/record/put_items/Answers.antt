@@ -7,14 +7,14 @@ pub returns-in_err-put_lines-clause-err : goal.returns-in_err-put_lines-clause-e
 returns-in_err-put_lines-clause-err g c =
     at_fault c.from_residual.result _
     (wrote_front _ _ _ _ _ _ _ c.loop-i.invariant.wrote
-    (turns_rest (g.T.Printed.lines_of c.args.labels.now c.args.names.now c.args.modes.now) c.args.items.now c.loop-i.i c.index-items-i.result c.loop-i-test.true c.index-items-i.is)
+    (turns_rest c.args.by.now.labels.now c.args.by.now.names.now (g.T.Printed.lines_of c.args.modes.now) c.args.items.now c.loop-i.i c.index-items-i.result c.loop-i-test.true c.index-items-i.is)
     (rw (c.lines.ensures, c.in-Ok.ensures) at c.in_err-put_lines.ensures.err))
 
 pub loop-i-preserved : goal.loop-i-preserved
 loop-i-preserved g c = record {
   wrote =
       wrote_more _ _ _ _ _ _ _ c.loop-i.invariant.wrote
-      (turns_rest (g.T.Printed.lines_of c.args.labels.now c.args.names.now c.args.modes.now) c.args.items.now c.loop-i.i c.index-items-i.result c.loop-i-test.true c.index-items-i.is)
+      (turns_rest c.args.by.now.labels.now c.args.by.now.names.now (g.T.Printed.lines_of c.args.modes.now) c.args.items.now c.loop-i.i c.index-items-i.result c.loop-i-test.true c.index-items-i.is)
       (rw (c.lines.ensures, c.in-Ok.ensures) at c.in_ok-put_lines.ensures.ok);
   same = c.in_ok-put_lines.ensures.told (λ e. cc) ∙ c.loop-i.invariant.same;
 }
