@@ -9,7 +9,7 @@ use Rattle.rules_spec.specs.Rulings.{Ruling}
 use Rattle.rules_spec.specs.AskedModes.{read_write}
 use Rattle.rules_spec.specs.Creds.{Creds, self_rule, is_effective}
 use Rattle.rules_spec.specs.Cases.{OrderedCase, ordered_cases, first_that_applies, verdict_of_cases}
-use Rattle.rules_spec.specs.Verdicts.{restricts, restricted, overridden, full_verdict, same_label_verdict, attach_verdict}
+use Rattle.rules_spec.specs.Verdicts.{restricts, restricted, goes_over, overridden, full_verdict, same_label_verdict, attach_verdict}
 use Rattle.replay_spec.specs.Plain.{HasId, IsPlainVerdict, IsPlainAnswer}
 
 -- the number of an ordered case, from 1 to 7
@@ -31,18 +31,23 @@ case_numbered rule s o m =
     (ordered_cases rule s o m)
     ((omega arith, omega arith), ((omega arith, omega arith), ((omega arith, omega arith), ((omega arith, omega arith), ((omega arith, omega arith), ((omega arith, omega arith), tt))))))
 
--- a verdict without privilege: its labels are known, its case is one from 1 to 10 and not 9, and it goes over none
+-- a verdict without privilege: its labels are known, its case is one from 1 to 10 that goes over none, and it went over
+-- none
 pub record IsUnprivileged (table : List (List ℕ)) (v : Verdict) : Type 0 where
   pub subject : HasId table v.subject
   pub object : HasId table v.object
   pub first : 1 ≤ v.case
   pub last : v.case ≤ 10
-  pub other : v.case ≡ 9 → ⊥
+  pub other : goes_over v.case ≡ false
   pub over : v.over ≡ 0
 
--- what goes over no case is not allowed by case 9
-unprivileged_over : (over case : ℕ) (allowed : Bool) → over ≡ 0 → (case ≡ 9 → ⊥) → not (over == 0) ≡ (allowed && (case == 9))
-unprivileged_over over case allowed none other = rw none (sym (and_right allowed (case == 9) (ne_eqb case 9 other)))
+-- the ordered cases go over none
+ordered_over : (number : ℕ) → number ≤ 7 → goes_over number ≡ false
+ordered_over number few = rw (ne_eqb number 9 (λ e. omega (arith, few, e))) refl
+
+-- what went over no case is allowed by none that does
+unprivileged_over : (over case : ℕ) (allowed : Bool) → over ≡ 0 → goes_over case ≡ false → not (over == 0) ≡ (allowed && goes_over case)
+unprivileged_over over case allowed none other = rw none (sym (and_right allowed (goes_over case) other))
 
 unprivileged_is_plain : (table : List (List ℕ)) (v : Verdict) → IsUnprivileged table v → IsPlainVerdict table v
 unprivileged_is_plain table v is = record {
@@ -62,7 +67,7 @@ cases_unprivileged table version s o m subject object =
       object = object;
       first = number.0;
       last = omega (arith, number.1);
-      other = λ e. omega (arith, number.1, e);
+      other = ordered_over _ number.1;
       over = refl;
     }
 
@@ -83,7 +88,7 @@ restricted_unprivileged : (table : List (List ℕ)) (rule : Option Modes) (v : V
 restricted_unprivileged table rule v is = by (v.allowed && restricts rule v.modes)
   where
     by : (b : Bool) → IsUnprivileged table (if b then record v { allowed = false; case = 8 } else v)
-    by true = record { subject = is.subject; object = is.object; first = omega arith; last = omega arith; other = λ e. omega (arith, e); over = is.over }
+    by true = record { subject = is.subject; object = is.object; first = omega arith; last = omega arith; other = refl; over = is.over }
     by false = is
 
 -- so the verdict on good labels is one without privilege, before privilege is looked at
@@ -96,7 +101,7 @@ question_unprivileged table c version s o m subject object =
     (verdict_of_cases version s o m)
     (cases_unprivileged table version s o m subject object)
 
--- privilege gives case 9 over the case that denied
+-- privilege goes over the case that denied
 overridden_is_plain : (table : List (List ℕ)) (privileged : Bool) (v : Verdict) → IsUnprivileged table v → IsPlainVerdict table (overridden privileged v)
 overridden_is_plain table privileged v is = by (privileged && not v.allowed)
   where
@@ -128,7 +133,7 @@ attach_is_plain table c version o subject object = by (version.ptrace == 0)
       object = object;
       first = omega arith;
       last = omega arith;
-      other = λ e. omega (arith, e);
+      other = refl;
       over = refl;
     }
 

@@ -8,6 +8,7 @@ use Rattle.text_spec.specs.Names.{place_of, IsLabelTable}
 use Rattle.rules_spec.specs.declared.Batch.{Batch}
 use Rattle.rules_spec.specs.declared.Verdict.{Verdict}
 use Rattle.rules_spec.specs.Creds.{most_self_rules, most_relabels}
+use Rattle.rules_spec.specs.Verdicts.{goes_over}
 use Rattle.script_spec.specs.Words.{is_task_name, is_file_name}
 use Rattle.script_spec.specs.Lines.{ScriptLine}
 use Rattle.world_spec.specs.declared.Call.{Call}
@@ -53,12 +54,12 @@ abbrev pub IsPlainBatch : List (List ℕ) → Batch → Type 0
 IsPlainBatch labels b = AllByRecursion (IsPlainOp labels) b.ops
 
 -- a verdict: its labels are known, its case is a number of one byte, and it has a case that it went over exactly where it
--- is allowed by privilege
+-- is allowed by one that goes over a case
 pub record IsPlainVerdict (labels : List (List ℕ)) (v : Verdict) : Type 0 where
   pub subject : HasId labels v.subject
   pub object : HasId labels v.object
   pub case : v.case < 256
-  pub over : not (v.over == 0) ≡ (v.allowed && (v.case == 9))
+  pub over : not (v.over == 0) ≡ (v.allowed && goes_over v.case)
 
 -- an answer to a question is one of the guide's ordered cases
 pub record IsPlainAnswer (labels : List (List ℕ)) (v : Verdict) : Type 0 where

@@ -1,4 +1,5 @@
-use Rattle.std.specs.Prelude.{◌==◌, Bool, true, false, ◌&&◌, not, if◌then◌else◌, Option, Some, None}
+use Rattle.std.specs.Prelude.{◌==◌, ℕ, Bool, true, false, ◌&&◌, not, if◌then◌else◌, List, [], ◌∷◌, Option, Some, None}
+use Rattle.std.specs.List.{list_any}
 use Rattle.smack_base.specs.declared.modes.Modes.{Modes}
 use Rattle.smack_base.specs.declared.ids.LabelId.{LabelId}
 use Rattle.smack_base.specs.declared.cap.Cap.TheVariants as Cap
@@ -22,6 +23,13 @@ restricted rule v = if v.allowed && restricts rule v.modes then record v { allow
 -- case 9: privilege over a denying case
 abbrev pub overridden : Bool → Verdict → Verdict
 overridden privileged v = if privileged && not v.allowed then record v { allowed = true; case = 9; over = v.case } else v
+
+-- the cases that allow over a denying case, which the verdict then tells
+abbrev pub cases_over : List ℕ
+cases_over = 9 ∷ []
+
+abbrev pub goes_over : ℕ → Bool
+goes_over case = list_any (λ over. case == over) cases_over
 
 -- the full verdict of a task's question: the ordered cases, then its self rules, then its privilege
 abbrev pub full_verdict : Creds → Ruling → LabelId → LabelId → Modes → Verdict
