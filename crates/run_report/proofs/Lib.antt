@@ -1,4 +1,4 @@
 pub mod Wrote
 pub mod Rests
-pub mod Whole
 pub mod LoggingModes
+pub mod Whole

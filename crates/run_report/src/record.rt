@@ -1,6 +1,6 @@
-ghost use Rattle.std.specs.Prelude.{◌≡◌, ◌≢◌, ◌≤◌, ◌<◌, [], ◌∷◌, length, Err, OnOk, OnErr};
-ghost use Rattle.outside.specs.Faults.{Rose};
-ghost use Rattle.outside.specs.Sink.{Appends, AppendsFront};
+ghost use Rattle.std.specs.Prelude.{◌≡◌, ◌<◌, [], ◌∷◌, length, OnOk};
+ghost use Rattle.outside.specs.Seen.{seen};
+ghost use Rattle.run_report.specs.Put.{IsPut};
 ghost use Rattle.run_report.specs.Modes.{modes_from};
 ghost use Rattle.run_report.specs.Spelling.{plain_line, lines_by};
 ghost use Rattle.record_spec.specs.Show.{joined, lines_in_turn, head_lines as lines_of_head, end_line as end_text, show};
@@ -18,11 +18,7 @@ use std::alloc::{AllocError, Global};
 
 /// Offers a line; its faults are those of the report.
 fn put_line<K: Sink>(sink: &mut K, line: &[u8]) -> Result<(), ReportFault>
-    ensures ok { OnOk result (Appends (K.taken sink.old) (K.taken sink.new) line.now) }
-    ensures err { OnErr result (AppendsFront (K.taken sink.old) (K.taken sink.new) line.now) }
-    ensures later { K.faults sink.old ≤ K.faults sink.new }
-    ensures failed { result ≡ Err ReportFault.Failed → Rose (K.faults sink.old) (K.faults sink.new) }
-    ensures told { result ≢ Err ReportFault.Failed → K.faults sink.new ≡ K.faults sink.old }
+    ensures { IsPut line.now (seen K.taken K.faults sink.old) (seen K.taken K.faults sink.new) result }
 {
     match offer(sink, line) {
         Ok(()) => Ok(()),
@@ -33,11 +29,7 @@ fn put_line<K: Sink>(sink: &mut K, line: &[u8]) -> Result<(), ReportFault>
 
 /// Offers lines, one piece each.
 fn put_lines<K: Sink>(sink: &mut K, lines: &[Bytes]) -> Result<(), ReportFault>
-    ensures ok { OnOk result (Appends (K.taken sink.old) (K.taken sink.new) (joined lines.now)) }
-    ensures err { OnErr result (AppendsFront (K.taken sink.old) (K.taken sink.new) (joined lines.now)) }
-    ensures later { K.faults sink.old ≤ K.faults sink.new }
-    ensures failed { result ≡ Err ReportFault.Failed → Rose (K.faults sink.old) (K.faults sink.new) }
-    ensures told { result ≢ Err ReportFault.Failed → K.faults sink.new ≡ K.faults sink.old }
+    ensures { IsPut (joined lines.now) (seen K.taken K.faults sink.old) (seen K.taken K.faults sink.new) result }
 {
     for line in lines {
         put_line(sink, line.items())?;
@@ -69,11 +61,7 @@ fn put_items<K: Sink, T: Printed>(
     items: &[T],
 ) -> Result<(), ReportFault>
     requires { 0 < length modes.now }
-    ensures ok { OnOk result (Appends (K.taken sink.old) (K.taken sink.new) (joined (lines_by by.now (lines_in_turn (T.lines_of modes.now) 1 items.now)))) }
-    ensures err { OnErr result (AppendsFront (K.taken sink.old) (K.taken sink.new) (joined (lines_by by.now (lines_in_turn (T.lines_of modes.now) 1 items.now)))) }
-    ensures later { K.faults sink.old ≤ K.faults sink.new }
-    ensures failed { result ≡ Err ReportFault.Failed → Rose (K.faults sink.old) (K.faults sink.new) }
-    ensures told { result ≢ Err ReportFault.Failed → K.faults sink.new ≡ K.faults sink.old }
+    ensures { IsPut (joined (lines_by by.now (lines_in_turn (T.lines_of modes.now) 1 items.now))) (seen K.taken K.faults sink.old) (seen K.taken K.faults sink.new) result }
 {
     for (i, item) in items.iter().enumerate() {
         let place = i as u64 + 1;
@@ -107,11 +95,7 @@ fn put_head<K: Sink>(
     alloc: Global,
     r: &RunRecord,
 ) -> Result<(), ReportFault>
-    ensures ok { OnOk result (Appends (K.taken sink.old) (K.taken sink.new) (joined (lines_by by.now (lines_of_head r.now)))) }
-    ensures err { OnErr result (AppendsFront (K.taken sink.old) (K.taken sink.new) (joined (lines_by by.now (lines_of_head r.now)))) }
-    ensures later { K.faults sink.old ≤ K.faults sink.new }
-    ensures failed { result ≡ Err ReportFault.Failed → Rose (K.faults sink.old) (K.faults sink.new) }
-    ensures told { result ≢ Err ReportFault.Failed → K.faults sink.new ≡ K.faults sink.old }
+    ensures { IsPut (joined (lines_by by.now (lines_of_head r.now))) (seen K.taken K.faults sink.old) (seen K.taken K.faults sink.new) result }
 {
     match head_page(page, by, alloc, r) {
         Ok(()) => put_lines(sink, page.lines()),
@@ -121,11 +105,7 @@ fn put_head<K: Sink>(
 
 /// Writes the last line of a record.
 fn put_end<K: Sink>(sink: &mut K, page: &mut Page, r: &RunRecord) -> Result<(), ReportFault>
-    ensures ok { OnOk result (Appends (K.taken sink.old) (K.taken sink.new) (joined (plain_line (end_text r.now) ∷ []))) }
-    ensures err { OnErr result (AppendsFront (K.taken sink.old) (K.taken sink.new) (joined (plain_line (end_text r.now) ∷ []))) }
-    ensures later { K.faults sink.old ≤ K.faults sink.new }
-    ensures failed { result ≡ Err ReportFault.Failed → Rose (K.faults sink.old) (K.faults sink.new) }
-    ensures told { result ≢ Err ReportFault.Failed → K.faults sink.new ≡ K.faults sink.old }
+    ensures { IsPut (joined (plain_line (end_text r.now) ∷ [])) (seen K.taken K.faults sink.old) (seen K.taken K.faults sink.new) result }
 {
     match end_page(page, r) {
         Ok(()) => put_lines(sink, page.lines()),
@@ -142,11 +122,7 @@ fn put_parts<K: Sink>(
 ) -> Result<(), ReportFault>
     requires modes { modes.now ≡ modes_from 1 r.now.journal }
     requires some { 0 < length modes.now }
-    ensures ok { OnOk result (Appends (K.taken sink.old) (K.taken sink.new) (show r.now)) }
-    ensures err { OnErr result (AppendsFront (K.taken sink.old) (K.taken sink.new) (show r.now)) }
-    ensures later { K.faults sink.old ≤ K.faults sink.new }
-    ensures failed { result ≡ Err ReportFault.Failed → Rose (K.faults sink.old) (K.faults sink.new) }
-    ensures told { result ≢ Err ReportFault.Failed → K.faults sink.new ≡ K.faults sink.old }
+    ensures { IsPut (show r.now) (seen K.taken K.faults sink.old) (seen K.taken K.faults sink.new) result }
 {
     let mut page = Page::new(alloc);
     let by = Spelling {
@@ -163,11 +139,7 @@ fn put_parts<K: Sink>(
 /// Writes the text of a record to a sink, line by line. After a fault a front of it was taken;
 /// `Failed` comes only where the sink's count of faults rose.
 pub fn put_record<K: Sink>(alloc: Global, r: &RunRecord, sink: &mut K) -> Result<(), ReportFault>
-    ensures ok { OnOk result (Appends (K.taken sink.old) (K.taken sink.new) (show r.now)) }
-    ensures err { OnErr result (AppendsFront (K.taken sink.old) (K.taken sink.new) (show r.now)) }
-    ensures later { K.faults sink.old ≤ K.faults sink.new }
-    ensures failed { result ≡ Err ReportFault.Failed → Rose (K.faults sink.old) (K.faults sink.new) }
-    ensures told { result ≢ Err ReportFault.Failed → K.faults sink.new ≡ K.faults sink.old }
+    ensures { IsPut (show r.now) (seen K.taken K.faults sink.old) (seen K.taken K.faults sink.new) result }
 {
     match logging_modes(alloc, r.journal.items()) {
         Ok(modes) => put_parts(sink, alloc, modes.as_slice(), r),

@@ -7,3 +7,4 @@ pub mod NoFaults
 pub mod Malformed
 pub mod FaultsTold
 pub mod ExitStatuses
+pub mod Promises

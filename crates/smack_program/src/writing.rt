@@ -1,7 +1,6 @@
-ghost use Rattle.std.specs.Prelude.{◌≡◌, ◌≢◌, ◌≤◌, [], Err, OnOk, OnErr, IfErr};
-ghost use Rattle.outside.specs.Faults.{Rose};
+ghost use Rattle.std.specs.Prelude.{◌≡◌, [], OnOk, IfErr};
 ghost use Rattle.outside.specs.Seen.{seen};
-ghost use Rattle.outside.specs.Sink.{Appends, AppendsFront};
+ghost use Rattle.run_report.specs.Put.{IsPut};
 ghost use Rattle.record_spec.specs.Show.{show};
 ghost use Rattle.smack_program.specs.Parts.{IsWritten, IsUnwritten};
 
@@ -13,12 +12,8 @@ use std::alloc::Global;
 
 /// Writes the text of a record, and hands on all that the sink keeps back.
 fn put_whole<K: Sink>(alloc: Global, r: &RunRecord, sink: &mut K) -> Result<(), ReportFault>
-    ensures ok { OnOk result (Appends (K.taken sink.old) (K.taken sink.new) (show r.now)) }
+    ensures put { IsPut (show r.now) (seen K.taken K.faults sink.old) (seen K.taken K.faults sink.new) result }
     ensures handed_on { OnOk result (K.kept sink.new ≡ []) }
-    ensures err { OnErr result (AppendsFront (K.taken sink.old) (K.taken sink.new) (show r.now)) }
-    ensures later { K.faults sink.old ≤ K.faults sink.new }
-    ensures failed { result ≡ Err ReportFault.Failed → Rose (K.faults sink.old) (K.faults sink.new) }
-    ensures told { result ≢ Err ReportFault.Failed → K.faults sink.new ≡ K.faults sink.old }
 {
     put_record(alloc, r, sink)?;
     match sink.flush() {

@@ -1,5 +1,5 @@
 use Rattle.outside.proofs.Appending.{appends_front_more, appends_front_of_more}
-use Rattle.run_report.proofs.Wrote.{at_fault, then_fault}
+use Rattle.smack_program.proofs.Promises.{at_fault, then_fault}
 use Rattle.smack_program.proofs.telling.put_both.Goals as goal
 
 pub returns-in_err-offer-clause-err : goal.returns-in_err-offer-clause-err

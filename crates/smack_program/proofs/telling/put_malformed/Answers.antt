@@ -1,4 +1,4 @@
-use Rattle.run_report.proofs.Wrote.{at_fault, then_ok, then_fault}
+use Rattle.smack_program.proofs.Promises.{at_fault, then_ok, then_fault}
 use Rattle.smack_program.proofs.Malformed.{told, cut_in_head, cut_in_cause}
 use Rattle.smack_program.proofs.telling.put_malformed.Goals as goal
 

@@ -1,6 +1,6 @@
 use Rattle.std.specs.Prelude.{◌++◌, decimal}
 use Rattle.outside.proofs.Appending.{appends_front_more, appends_front_of_more}
-use Rattle.run_report.proofs.Wrote.{at_fault, then_fault}
+use Rattle.smack_program.proofs.Promises.{at_fault, then_fault}
 use Rattle.smack_program.proofs.telling.put_numbered.Goals as goal
 
 pub returns-in_err-put_number-clause-err : goal.returns-in_err-put_number-clause-err
