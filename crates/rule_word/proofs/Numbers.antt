@@ -1,65 +1,40 @@
-use Rattle.std.proofs.Common.{◌≡◌, ℕ, ◌+◌, ◌*◌, ◌/◌, ◌%◌, ◌<◌, ◌≤◌, ◌==◌, Bool, true, false, ap, arith}
+use Rattle.std.proofs.Common.{◌≡◌, ℕ, ◌+◌, ◌*◌, ◌/◌, ◌%◌, ◌<◌, ◌==◌, Bool, true, false, List, [], ◌∷◌, length, refl, ap, ap₂, ◌∙◌, arith}
 use Rattle.smack_base.specs.declared.modes.Modes.{Modes}
-use Rattle.rule_word.specs.Layout.{worth, modes_number}
-use Rattle.rule_word.specs.Fields.{modes_in}
+use Rattle.rule_word.specs.Layout.{worth, flags_of, flags_number, modes_number}
+use Rattle.rule_word.specs.Fields.{flags_in, modes_by, modes_in}
 
-times : (flag : Bool) (n : ℕ) → worth flag n ≡ n * worth flag 1
-times true n = omega arith
-times false n = omega arith
+-- the lowest bit of a number is its first flag, and what is left of it is the number of the others
+first_back : (flag : Bool) (n : ℕ) → ((worth flag 1 + 2 * n) % 2 == 1) ≡ flag
+first_back true n = let odd : (1 + 2 * n) % 2 ≡ 1 = omega arith in ap (λ x. x == 1) odd
+first_back false n = let even : (0 + 2 * n) % 2 ≡ 0 = omega arith in ap (λ x. x == 1) even
 
-most_one : (flag : Bool) → worth flag 1 ≤ 1
+rest_back : (flag : Bool) (n : ℕ) → (worth flag 1 + 2 * n) / 2 ≡ n
+rest_back true n = omega arith
+rest_back false n = omega arith
+
+-- the flags of the number of some flags are these
+flags_back : (flags : List Bool) → flags_in (length flags) (flags_number flags) ≡ flags
+flags_back [] = refl
+flags_back (f ∷ fs) =
+    ap₂ (λ (b : Bool) n. b ∷ flags_in (length fs) n) (first_back f (flags_number fs)) (rest_back f (flags_number fs))
+    ∙ ap (λ (bs : List Bool). f ∷ bs) (flags_back fs)
+
+most_one : (flag : Bool) → worth flag 1 < 2
 most_one true = omega arith
 most_one false = omega arith
 
-is_set : (flag : Bool) (n : ℕ) → n ≡ worth flag 1 → (n == 1) ≡ flag
-is_set true n e = ap (λ x. x == 1) e
-is_set false n e = ap (λ x. x == 1) e
+-- how many numbers these flags can make, and that theirs is below it
+abbrev counted : List Bool → ℕ
+counted [] = 1
+counted (f ∷ fs) = 2 * counted fs
 
--- the six lowest bits of n are these, and it has no others
-record HasBits (n r w x a t b : ℕ) : Type 0 where
-  pub read : n % 2 ≡ r
-  pub write : n / 2 % 2 ≡ w
-  pub execute : n / 4 % 2 ≡ x
-  pub append : n / 8 % 2 ≡ a
-  pub transmute : n / 16 % 2 ≡ t
-  pub bring_up : n / 32 % 2 ≡ b
-  pub few : n < 64
+flags_few : (flags : List Bool) → flags_number flags < counted flags
+flags_few [] = omega arith
+flags_few (f ∷ fs) = let first = most_one f in let rest = flags_few fs in omega (arith, first, rest)
 
-bits : (n r w x a t b : ℕ) → r ≤ 1 → w ≤ 1 → x ≤ 1 → a ≤ 1 → t ≤ 1 → b ≤ 1
-    → n ≡ r + 2 * w + 4 * x + 8 * a + 16 * t + 32 * b → HasBits n r w x a t b
-bits n r w x a t b hr hw hx ha ht hb e = record {
-  read = omega arith;
-  write = omega arith;
-  execute = omega arith;
-  append = omega arith;
-  transmute = omega arith;
-  bring_up = omega arith;
-  few = omega arith;
-}
+pub modes_few : (m : Modes) → modes_number m < 64
+modes_few m = flags_few (flags_of m)
 
-module _ (m : Modes) where
-  bits_of : HasBits (modes_number m) (worth m.read 1) (worth m.write 1) (worth m.execute 1) (worth m.append 1)
-      (worth m.transmute 1) (worth m.bring_up 1)
-  bits_of =
-      let w = times m.write 2 in
-      let x = times m.execute 4 in
-      let a = times m.append 8 in
-      let t = times m.transmute 16 in
-      let b = times m.bring_up 32 in
-      bits (modes_number m) (worth m.read 1) (worth m.write 1) (worth m.execute 1) (worth m.append 1)
-      (worth m.transmute 1) (worth m.bring_up 1) (most_one m.read) (most_one m.write) (most_one m.execute)
-      (most_one m.append) (most_one m.transmute) (most_one m.bring_up) (omega arith)
-
-  pub modes_few : modes_number m < 64
-  modes_few = bits_of.few
-
-  -- the modes of the number of a set are the set
-  pub modes_back : modes_in (modes_number m) ≡ m
-  modes_back = let f = bits_of in λ i. record {
-    read = is_set m.read _ f.read i;
-    write = is_set m.write _ f.write i;
-    execute = is_set m.execute _ f.execute i;
-    append = is_set m.append _ f.append i;
-    transmute = is_set m.transmute _ f.transmute i;
-    bring_up = is_set m.bring_up _ f.bring_up i;
-  }
+-- the modes of the number of a set are the set
+pub modes_back : (m : Modes) → modes_in (modes_number m) ≡ m
+modes_back m = ap modes_by (flags_back (flags_of m))

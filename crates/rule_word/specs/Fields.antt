@@ -1,8 +1,7 @@
-use Rattle.std.specs.Prelude.{ℕ, ◌/◌, ◌%◌, ◌^◌, ◌==◌, if◌then◌else◌, Option, Some, None}
+use Rattle.std.specs.Prelude.{ℕ, zero, suc, ◌/◌, ◌%◌, ◌^◌, ◌==◌, Bool, false, if◌then◌else◌, List, [], ◌∷◌, Option, Some, None, slice_index_or}
 use Rattle.smack_base.specs.declared.modes.Modes.{Modes}
 use Rattle.smack_base.specs.declared.ids.LabelId.{LabelId}
 use Rattle.smack_base.specs.declared.rule_op.RuleOp.{RuleOp}
-use Rattle.smack_base.specs.declared.rule_op.RuleOp.TheVariants as RuleOp
 
 -- the fields of a word
 abbrev pub tag_in : ℕ → ℕ
@@ -20,16 +19,25 @@ allow_in word = word / 2 ^ 20 % 256
 abbrev pub deny_in : ℕ → ℕ
 deny_in word = word / 2 ^ 12 % 256
 
+-- the lowest bits of a number, so many, as flags
+abbrev pub flags_in : ℕ → ℕ → List Bool
+flags_in zero n = []
+flags_in (suc k) n = (n % 2 == 1) ∷ flags_in k (n / 2)
+
+-- the set of modes with these flags
+abbrev pub modes_by : List Bool → Modes
+modes_by flags = record {
+  read = slice_index_or flags 0 false;
+  write = slice_index_or flags 1 false;
+  execute = slice_index_or flags 2 false;
+  append = slice_index_or flags 3 false;
+  transmute = slice_index_or flags 4 false;
+  bring_up = slice_index_or flags 5 false;
+}
+
 -- the modes of a number, whatever stands above its six lowest bits
 abbrev pub modes_in : ℕ → Modes
-modes_in n = record {
-  read = n % 2 == 1;
-  write = n / 2 % 2 == 1;
-  execute = n / 4 % 2 == 1;
-  append = n / 8 % 2 == 1;
-  transmute = n / 16 % 2 == 1;
-  bring_up = n / 32 % 2 == 1;
-}
+modes_in n = modes_by (flags_in 6 n)
 
 abbrev pub label_in : ℕ → LabelId
 label_in n = record { 0 = n }

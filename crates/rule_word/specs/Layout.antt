@@ -1,17 +1,24 @@
-use Rattle.std.specs.Prelude.{ℕ, ◌+◌, ◌*◌, ◌^◌, ◌<◌, ◌≤◌, Bool, if◌then◌else◌}
+use Rattle.std.specs.Prelude.{ℕ, ◌+◌, ◌*◌, ◌^◌, ◌<◌, ◌≤◌, Bool, if◌then◌else◌, List, [], ◌∷◌}
 use Rattle.smack_base.specs.declared.modes.Modes.{Modes}
 use Rattle.smack_base.specs.declared.ids.LabelId.{LabelId}
 use Rattle.smack_base.specs.declared.rule_op.RuleOp.{RuleOp}
-use Rattle.smack_base.specs.declared.rule_op.RuleOp.TheVariants as RuleOp
 
 -- a flag that counts n where it is set
 abbrev pub worth : Bool → ℕ → ℕ
 worth flag n = if flag then n else 0
 
+-- the flags of a set of modes, by the bits 1, 2, 4 .. of its number
+abbrev pub flags_of : Modes → List Bool
+flags_of m = m.read ∷ m.write ∷ m.execute ∷ m.append ∷ m.transmute ∷ m.bring_up ∷ []
+
+-- flags as a number, the first as its lowest bit
+abbrev pub flags_number : List Bool → ℕ
+flags_number [] = 0
+flags_number (flag ∷ flags) = worth flag 1 + 2 * flags_number flags
+
 -- a set of modes as a number below 64
 abbrev pub modes_number : Modes → ℕ
-modes_number m =
-    worth m.read 1 + worth m.write 2 + worth m.execute 4 + worth m.append 8 + worth m.transmute 16 + worth m.bring_up 32
+modes_number m = flags_number (flags_of m)
 
 -- the word of a write, by its fields from the highest bit: tag 4 bits, first 16, second 16, allow 8, deny 8; the last
 -- 12 bits are 0
