@@ -56,21 +56,21 @@ fork_by e (Some t) = record { parent = e.task; seq = e.seq; version = e.version;
 abbrev pub forks_of : List Entry → List MadeFork
 forks_of history = flat_map (λ e. fork_by e (child_of e)) history
 
-abbrev pub has_number : List ℕ → ℕ → Bool
-has_number numbers task = list_any (λ n. n == task) numbers
+abbrev pub has_task : List ℕ → ℕ → Bool
+has_task numbers task = list_any (λ n. n == task) numbers
 
 -- the numbers of the tasks: the first, and those that the forks made
 abbrev pub task_numbers : List Entry → List ℕ
 task_numbers history = 0 ∷ map (λ f. f.number) (forks_of history)
 
--- the version of the latest fork that made a task; 0 for the first task
+-- the greatest version of the forks that made a task; 0 for the first task
 abbrev pub version_told : List MadeFork → ℕ → ℕ
 version_told [] task = 0
 version_told (f ∷ fs) task = if f.number == task then max f.version (version_told fs task) else version_told fs task
 
 -- a child of a task among these joins them
 abbrev pub with_descendant : List ℕ → MadeFork → List ℕ
-with_descendant numbers f = if has_number numbers f.parent then f.number ∷ numbers else numbers
+with_descendant numbers f = if has_task numbers f.parent then f.number ∷ numbers else numbers
 
 -- who descends from a task: one pass over the forks
 abbrev pub descendants : List MadeFork → ℕ → List ℕ

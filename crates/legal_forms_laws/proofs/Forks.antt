@@ -10,7 +10,7 @@ use Rattle.world_spec.specs.declared.Entry.{Entry}
 use Rattle.record_spec.specs.declared.NumberedTask.{NumberedTask}
 use Rattle.record_spec.specs.Tasks.{forked, child_number, child_by, child_of}
 use Rattle.legal_spec.specs.Calls.{Stands, IsForkOf, IsTask}
-use Rattle.legal_forms.specs.MadeCalls.{MadeFork, fork_by, forks_of, has_number, task_numbers}
+use Rattle.legal_forms.specs.MadeCalls.{MadeFork, fork_by, forks_of, has_task, task_numbers}
 use Rattle.legal_forms_laws.proofs.Members.{same_some, Has, has_there, place_of_one, has_left, has_right, has_either, has_image, has_source}
 use Rattle.legal_forms_laws.proofs.Quantified.{list_any_decides}
 
@@ -84,9 +84,9 @@ fork_has (x ∷ xs) f has = by (fork_has xs f) (has_either (fork_by x (child_of 
         let of = again rest in record { place = suc of.place; fork = of.fork; there = of.there; is = of.is; same = of.same }
 
 -- whether a number is among some
-pub number_decides : (numbers : List ℕ) (k : ℕ) → Decides (has_number numbers k) (Has numbers k)
+pub number_decides : (numbers : List ℕ) (k : ℕ) → Decides (has_task numbers k) (Has numbers k)
 number_decides numbers k =
-    Decides-like (has_number numbers k)
+    Decides-like (has_task numbers k)
     (λ some. subst (Has numbers) some.3 (has_there numbers some.0 some.1 some.2))
     (λ has. let place = place_of_one numbers k has in (place.0, k, place.1, refl))
     (list_any_decides (λ n. n == k) (λ n. n ≡ k) (λ n. Decides-eqb n k) numbers)
@@ -107,6 +107,6 @@ number_of history k is = by is.1
         inr (has_image (λ (f : MadeFork). f.number) (forks_of history) (fork_of_entry fork.1 k is.0)
         (has_fork history fork.0 fork.1 k is.0 fork.2 fork.3))
 
-pub task_decides : (history : List Entry) (k : ℕ) → Decides (has_number (task_numbers history) k) (IsTask history k)
+pub task_decides : (history : List Entry) (k : ℕ) → Decides (has_task (task_numbers history) k) (IsTask history k)
 task_decides history k =
-    Decides-like (has_number (task_numbers history) k) (of_number history k) (number_of history k) (number_decides (task_numbers history) k)
+    Decides-like (has_task (task_numbers history) k) (of_number history k) (number_of history k) (number_decides (task_numbers history) k)

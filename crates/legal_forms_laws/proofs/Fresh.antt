@@ -1,5 +1,5 @@
 -- No call is judged in a version older than its task had seen or been told of.
-use Rattle.std.proofs.Common.{◌≡◌, ◌≤◌, ◌<◌, ⊎_elim, inl, inr, ℕ, Bool, true, false, not, ◌&&◌, ◌||◌, ◌==◌, cond, max, nat_le, nat_lt, List, [], ◌∷◌, refl, ap, ◌∙◌, subst, arith}
+use Rattle.std.proofs.Common.{◌≡◌, ◌≤◌, ◌<◌, ⊎_elim, inl, inr, ℕ, suc, Bool, true, false, not, ◌&&◌, ◌||◌, ◌==◌, cond, if◌then◌else◌, max, nat_le, nat_lt, List, [], ◌∷◌, refl, sym, ap, ◌∙◌, subst, arith}
 use Rattle.std.specs.Bool.{Decides}
 use Rattle.std.specs.List.{list_all}
 use Rattle.std.proofs.lemmas.Bool.{cases_lt, eqb-true, eq-eqb}
@@ -11,10 +11,10 @@ use Rattle.record_spec.specs.declared.AskedWhat.{AskedWhat}
 use Rattle.record_spec.specs.declared.RunRecord.{RunRecord}
 use Rattle.legal_spec.specs.Calls.{Stands, IsForkOf, IsCall, batch, entry, asked, Descends}
 use Rattle.legal_spec.specs.Legal.{IsEachCallOnce, HasWaited}
-use Rattle.legal_forms.specs.MadeCalls.{MadeCall, made_calls, MadeFork, forks_of, has_number, task_numbers, version_told, descendants}
-use Rattle.legal_forms.specs.Forms.{all_behind, has_fresh_calls, none_late, is_told, is_awaited, has_waited, is_fresh}
+use Rattle.legal_forms.specs.MadeCalls.{MadeCall, made_calls, MadeFork, forks_of, has_task, task_numbers, version_told, descendants}
+use Rattle.legal_forms.specs.Forms.{has_fresh_calls, is_after, none_late, is_told, is_awaited, has_waited, is_fresh}
 use Rattle.legal_forms.specs.Laws.{FreshnessIsDecided}
-use Rattle.legal_forms_laws.proofs.Quantified.{Each, Some_of, list_all_decides, list_any_decides, all_selves_decide}
+use Rattle.legal_forms_laws.proofs.Quantified.{Each, IsSomewhere, EachPairOrSelf, no_selves, selves_of_both, list_all_decides, list_any_decides}
 use Rattle.legal_forms_laws.proofs.Members.{Has, has_there, place_of_one}
 use Rattle.legal_forms_laws.proofs.MadeCalls.{is_made, made_is}
 use Rattle.legal_forms_laws.proofs.Forks.{fork_of_entry, has_fork, fork_has, number_decides, task_decides}
@@ -121,14 +121,14 @@ module _ (r : RunRecord) (calls : IsEachCallOnce r) where
     abbrev below : List ℕ
     below = descendants forks number
 
-    below_decides : (k : ℕ) → Decides (has_number below k) (Descends r.history number k)
+    below_decides : (k : ℕ) → Decides (has_task below k) (Descends r.history number k)
     below_decides = descendants_decide r.history number calls.behind_fork
 
     abbrev IsTold : Type 0
     IsTold = (task seq needs reaches : ℕ) → Descends r.history number task → IsCall r task seq needs reaches → reaches ≤ a.version
 
     abbrev told : Bool
-    told = list_all (λ c. not (has_number below c.task) || nat_le c.reaches a.version) (made_calls r)
+    told = list_all (λ c. not (has_task below c.task) || nat_le c.reaches a.version) (made_calls r)
 
     told_decides : Decides told IsTold
     told_decides =
@@ -136,37 +136,55 @@ module _ (r : RunRecord) (calls : IsEachCallOnce r) where
         (λ each task seq needs reaches down call.
         let place = place_of_one (made_calls r) _ (is_made r task seq needs reaches call) in each place.0 _ place.1 down)
         (λ is i c at down. is c.task c.seq c.needs c.reaches down (made_is r c (has_there (made_calls r) i c at)))
-        (list_all_decides (λ c. not (has_number below c.task) || nat_le c.reaches a.version)
+        (list_all_decides (λ c. not (has_task below c.task) || nat_le c.reaches a.version)
         (λ c. Descends r.history number c.task → c.reaches ≤ a.version)
-        (λ c. implied_decides (has_number below c.task) (nat_le c.reaches a.version) (below_decides c.task) (le_decides c.reaches a.version))
+        (λ c. implied_decides (has_task below c.task) (nat_le c.reaches a.version) (below_decides c.task) (le_decides c.reaches a.version))
         (made_calls r))
 
     -- an entry that the waiter makes afterwards, and one that is not of those who are told of
     abbrev IsApart : Entry → Entry → Type 0
     IsApart f e = (f.task ≡ a.task) × (a.seq < f.seq) → Descends r.history number e.task → ⊥
 
-    late_decides : (f : Entry) (es : List Entry) → Decides (none_late a below f es) (Each (λ k. IsApart f) (f ∷ es))
-    late_decides f es =
-        Decides-like (none_late a below f es) (λ all k e at late. all late k e at) (λ all late k e at. all k e at late)
-        (implied_decides ((f.task == a.task) && nat_lt a.seq f.seq) (list_all (λ e. not (has_number below e.task)) (f ∷ es))
-        (Decides-and (f.task == a.task) (nat_lt a.seq f.seq) (Decides-eqb f.task a.task) (Decides-ltb a.seq f.seq))
-        (list_all_decides (λ e. not (has_number below e.task)) (λ e. Descends r.history number e.task → ⊥)
-        (λ e. Decides-not (has_number below e.task) (below_decides e.task)) (f ∷ es)))
+    apart_decides : (xs : List Entry) → Decides (list_all (λ e. not (has_task below e.task)) xs) (Each (λ k e. Descends r.history number e.task → ⊥) xs)
+    apart_decides =
+        list_all_decides (λ e. not (has_task below e.task)) (λ e. Descends r.history number e.task → ⊥)
+        (λ e. Decides-not (has_task below e.task) (below_decides e.task))
+
+    after_decides : (f : Entry) → Decides (is_after a f) ((f.task ≡ a.task) × (a.seq < f.seq))
+    after_decides f =
+        Decides-and (f.task == a.task) (nat_lt a.seq f.seq) (Decides-eqb f.task a.task) (Decides-ltb a.seq f.seq)
+
+    late_decides : (es : List Entry) → Decides (none_late a below es) (EachPairOrSelf IsApart es)
+    late_decides [] = ((λ e. no_selves IsApart), (λ all. refl))
+    late_decides (f ∷ es) = by (is_after a f) (after_decides f) (late_decides es)
+      where
+        by : (b : Bool) → Decides b ((f.task ≡ a.task) × (a.seq < f.seq)) → Decides (none_late a below es) (EachPairOrSelf IsApart es)
+            → Decides (if b then list_all (λ e. not (has_task below e.task)) (f ∷ es) else none_late a below es) (EachPairOrSelf IsApart (f ∷ es))
+        by true after rest =
+            Decides-like (list_all (λ e. not (has_task below e.task)) (f ∷ es)) (λ all i k g e at_g at_e le late down. all k e at_e down)
+            (λ all k e at down. all 0 k f e refl at (omega arith) (after.0 refl) down) (apart_decides (f ∷ es))
+        by false after rest =
+            Decides-like (none_late a below es)
+            (λ all. selves_of_both IsApart f es (λ k e at late down. absurd (wrong (after.1 late))) all)
+            (λ all i k g e at_g at_e le. all (suc i) (suc k) g e at_g at_e (omega (arith, le))) rest
+          where
+            wrong : false ≡ true → ⊥
+            wrong is = cc
 
     abbrev IsBehind : Type 0
     IsBehind = (i k : ℕ) (e f : Entry) → Descends r.history number e.task → Stands r.history i e → Stands r.history k f
         → f.task ≡ a.task → a.seq < f.seq → i < k
 
-    behind_decides : Decides (all_behind (none_late a below) r.history) IsBehind
+    behind_decides : Decides (none_late a below r.history) IsBehind
     behind_decides =
-        Decides-like (all_behind (none_late a below) r.history)
+        Decides-like (none_late a below r.history)
         (λ apart i k e f down at_e at_f own later.
         ⊎_elim (λ less. less) (λ le. absurd (apart k i f e at_f at_e le (own, later) down)) (cases_lt i k))
         (λ behind k i f e at_f at_e le late down. omega (arith, le, behind i k e f down at_e at_f late.0 late.1))
-        (all_selves_decide (none_late a below) IsApart late_decides r.history)
+        (late_decides r.history)
 
     is_told_decides : Decides (is_told r a below) (IsTold × IsBehind)
-    is_told_decides = Decides-and told (all_behind (none_late a below) r.history) told_decides behind_decides
+    is_told_decides = Decides-and told (none_late a below r.history) told_decides behind_decides
 
   -- the fork of the awaited task
   abbrev IsAwaited : AskedLine → Pid → MadeFork → Type 0
@@ -183,7 +201,7 @@ module _ (r : RunRecord) (calls : IsEachCallOnce r) where
       (Decides-and (f.parent == a.task) (nat_lt f.seq a.seq) (Decides-eqb f.parent a.task) (Decides-ltb f.seq a.seq)))
       (is_told_decides a f.number)
 
-  waited_by : (a : AskedLine) (pid : Pid) → Some_of (IsWaitFor a pid) forks → HasWaited r a pid
+  waited_by : (a : AskedLine) (pid : Pid) → IsSomewhere (IsWaitFor a pid) forks → HasWaited r a pid
   waited_by a pid some =
       let f = some.1 in
       let is = some.3 in
@@ -202,7 +220,7 @@ module _ (r : RunRecord) (calls : IsEachCallOnce r) where
         behind = is.1.1;
       }
 
-  waits_for : (a : AskedLine) (pid : Pid) → HasWaited r a pid → Some_of (IsWaitFor a pid) forks
+  waits_for : (a : AskedLine) (pid : Pid) → HasWaited r a pid → IsSomewhere (IsWaitFor a pid) forks
   waits_for a pid w =
       let place = place_of_one forks (fork_of_entry w.fork w.number pid) (has_fork r.history w.place w.fork w.number pid w.there w.is) in
       (place.0, fork_of_entry w.fork w.number pid, place.1, ((refl, (w.own, w.after)), (w.told, w.behind)))

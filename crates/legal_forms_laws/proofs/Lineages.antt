@@ -8,7 +8,7 @@ use Rattle.smack_base.specs.declared.ids.Pid.{Pid}
 use Rattle.world_spec.specs.declared.Entry.{Entry}
 use Rattle.record_spec.specs.Tasks.{child_of}
 use Rattle.legal_spec.specs.Calls.{Stands, IsForkOf, Descends, itself, child}
-use Rattle.legal_forms.specs.MadeCalls.{MadeFork, fork_by, forks_of, has_number, with_descendant, descendants}
+use Rattle.legal_forms.specs.MadeCalls.{MadeFork, fork_by, forks_of, has_task, with_descendant, descendants}
 use Rattle.legal_forms_laws.proofs.Members.{same_some, Has}
 use Rattle.legal_forms_laws.proofs.Forks.{made_fork, fork_of_entry, IsForkIn, fork_has, number_decides}
 
@@ -40,7 +40,7 @@ abbrev after : List ℕ → List MadeFork → List ℕ
 after numbers forks = fold with_descendant numbers forks
 
 kept_by : (numbers : List ℕ) (f : MadeFork) (k : ℕ) → Has numbers k → Has (with_descendant numbers f) k
-kept_by numbers f k has = by (has_number numbers f.parent)
+kept_by numbers f k has = by (has_task numbers f.parent)
   where
     by : (b : Bool) → Has (if b then f.number ∷ numbers else numbers) k
     by true = inr has
@@ -52,9 +52,9 @@ kept (f ∷ fs) numbers k has = kept fs (with_descendant numbers f) k (kept_by n
 
 -- a number that is new is that of a child whose parent was there
 added_by : (numbers : List ℕ) (f : MadeFork) (k : ℕ) → Has (with_descendant numbers f) k → Has numbers k ⊎ ((f.number ≡ k) × Has numbers f.parent)
-added_by numbers f k has = by (has_number numbers f.parent) refl has
+added_by numbers f k has = by (has_task numbers f.parent) refl has
   where
-    by : (b : Bool) → has_number numbers f.parent ≡ b → Has (if b then f.number ∷ numbers else numbers) k
+    by : (b : Bool) → has_task numbers f.parent ≡ b → Has (if b then f.number ∷ numbers else numbers) k
         → Has numbers k ⊎ ((f.number ≡ k) × Has numbers f.parent)
     by true there (inl same) = inr (same, (number_decides numbers f.parent).0 there)
     by true there (inr has) = inl has
@@ -116,7 +116,7 @@ module _ (history : List Entry) (ancestor : ℕ) where
     joins numbers e back k pid is has =
         subst (λ o. Has (after numbers (fork_by e o ++ forks_of back)) k) (sym (made_fork e k pid is))
         (kept (forks_of back) (with_descendant numbers (fork_of_entry e k pid)) k
-        (by (has_number numbers e.task) ((number_decides numbers e.task).1 has)))
+        (by (has_task numbers e.task) ((number_decides numbers e.task).1 has)))
       where
         by : (b : Bool) → b ≡ true → Has (if b then k ∷ numbers else numbers) k
         by true there = inl refl
@@ -133,7 +133,7 @@ module _ (history : List Entry) (ancestor : ℕ) where
         (⊎_elim (λ was. joins before e s.back number pid is was) (λ new. absurd (not_later i e at s new.0 new.1 new.2))
         (added (forks_of (e ∷ s.back)) before e.task there))
 
-    pub descendants_decide : (k : ℕ) → Decides (has_number (descendants (forks_of history) ancestor) k) (Descends history ancestor k)
+    pub descendants_decide : (k : ℕ) → Decides (has_task (descendants (forks_of history) ancestor) k) (Descends history ancestor k)
     descendants_decide k =
-        Decides-like (has_number (descendants (forks_of history) ancestor) k) (who_is_told k) (is_told_of k)
+        Decides-like (has_task (descendants (forks_of history) ancestor) k) (who_is_told k) (is_told_of k)
         (number_decides (descendants (forks_of history) ancestor) k)

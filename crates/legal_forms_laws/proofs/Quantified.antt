@@ -12,10 +12,10 @@ module _ {X : Type 0} where
   abbrev pub Each : (ℕ → X → Type 0) → List X → Type 0
   Each P xs = (i : ℕ) (x : X) → Stands xs i x → P i x
 
-  none_of_each : (P : ℕ → X → Type 0) → Each P []
+  pub none_of_each : (P : ℕ → X → Type 0) → Each P []
   none_of_each P i x at = cc
 
-  each_of_both : (P : ℕ → X → Type 0) (x : X) (xs : List X) → P 0 x → Each (λ i. P (suc i)) xs → Each P (x ∷ xs)
+  pub each_of_both : (P : ℕ → X → Type 0) (x : X) (xs : List X) → P 0 x → Each (λ i. P (suc i)) xs → Each P (x ∷ xs)
   each_of_both P x xs first rest zero y at = subst (P 0) (same_some x y at) first
   each_of_both P x xs first rest (suc i) y at = rest i y at
 
@@ -62,20 +62,20 @@ module _ {X : Type 0} where
       (Decides-and (test x) (list_all test xs) (each x) (list_all_decides test P each xs))
 
   -- some element
-  abbrev pub Some_of : (X → Type 0) → List X → Type 0
-  Some_of P xs = (i : ℕ) × (x : X) × Stands xs i x × P x
+  abbrev pub IsSomewhere : (X → Type 0) → List X → Type 0
+  IsSomewhere P xs = (i : ℕ) × (x : X) × Stands xs i x × P x
 
-  none_of_some : (P : X → Type 0) → Some_of P [] → ⊥
-  none_of_some P is = let at = is.2 in cc
+  nowhere : (P : X → Type 0) → IsSomewhere P [] → ⊥
+  nowhere P is = let at = is.2 in cc
 
-  some_of_both : (P : X → Type 0) (x : X) (xs : List X) → P x ⊎ Some_of P xs → Some_of P (x ∷ xs)
-  some_of_both P x xs (inl first) = (0, x, refl, first)
-  some_of_both P x xs (inr rest) = (suc rest.0, rest.1, rest.2, rest.3)
+  somewhere_of_either : (P : X → Type 0) (x : X) (xs : List X) → P x ⊎ IsSomewhere P xs → IsSomewhere P (x ∷ xs)
+  somewhere_of_either P x xs (inl first) = (0, x, refl, first)
+  somewhere_of_either P x xs (inr rest) = (suc rest.0, rest.1, rest.2, rest.3)
 
-  either_of_some : (P : X → Type 0) (x : X) (xs : List X) → Some_of P (x ∷ xs) → P x ⊎ Some_of P xs
-  either_of_some P x xs some = by some.0 some.1 some.2 some.3
+  either_of_somewhere : (P : X → Type 0) (x : X) (xs : List X) → IsSomewhere P (x ∷ xs) → P x ⊎ IsSomewhere P xs
+  either_of_somewhere P x xs some = by some.0 some.1 some.2 some.3
     where
-      by : (i : ℕ) (y : X) → Stands (x ∷ xs) i y → P y → P x ⊎ Some_of P xs
+      by : (i : ℕ) (y : X) → Stands (x ∷ xs) i y → P y → P x ⊎ IsSomewhere P xs
       by zero y at is = inl (subst P (sym_some y at) is)
         where
           sym_some : (y : X) → Stands (x ∷ xs) 0 y → y ≡ x
@@ -83,39 +83,32 @@ module _ {X : Type 0} where
       by (suc i) y at is = inr (i, y, at, is)
 
   pub list_any_decides : (test : X → Bool) (P : X → Type 0) → ((x : X) → Decides (test x) (P x)) → (xs : List X)
-      → Decides (list_any test xs) (Some_of P xs)
-  list_any_decides test P each [] = ((λ e. absurd cc), (λ some. absurd (none_of_some P some)))
+      → Decides (list_any test xs) (IsSomewhere P xs)
+  list_any_decides test P each [] = ((λ e. absurd cc), (λ some. absurd (nowhere P some)))
   list_any_decides test P each (x ∷ xs) =
-      Decides-like (test x || list_any test xs) (some_of_both P x xs) (either_of_some P x xs)
+      Decides-like (test x || list_any test xs) (somewhere_of_either P x xs) (either_of_somewhere P x xs)
       (Decides-or (test x) (list_any test xs) (each x) (list_any_decides test P each xs))
 
   -- what holds of each place of a list and each place behind it
   abbrev pub EachPair : (X → X → Type 0) → List X → Type 0
   EachPair R xs = (i k : ℕ) (x y : X) → Stands xs i x → Stands xs k y → i < k → R x y
 
-  pairs_of_both : (R : X → X → Type 0) (x : X) (xs : List X) → Each (λ k. R x) xs → EachPair R xs → EachPair R (x ∷ xs)
+  pub no_pairs : (R : X → X → Type 0) → EachPair R []
+  no_pairs R i k x y at_x at_y less = cc
+
+  pub pairs_of_both : (R : X → X → Type 0) (x : X) (xs : List X) → Each (λ k. R x) xs → EachPair R xs → EachPair R (x ∷ xs)
   pairs_of_both R x xs first rest i zero y z at_y at_z less = absurd (omega (arith, less))
   pairs_of_both R x xs first rest zero (suc k) y z at_y at_z less = subst (λ v. R v z) (same_some x y at_y) (first k z at_z)
   pairs_of_both R x xs first rest (suc i) (suc k) y z at_y at_z less = rest i k y z at_y at_z (omega (arith, less))
-
-  pub all_pairs_decide : (test : X → List X → Bool) (R : X → X → Type 0) → ((x : X) (xs : List X) → Decides (test x xs) (Each (λ k. R x) xs))
-      → (xs : List X) → Decides (all_behind test xs) (EachPair R xs)
-  all_pairs_decide test R each [] = ((λ e i k x y at_x at_y less. absurd (none x i at_x)), (λ h. refl))
-    where
-      none : (x : X) (i : ℕ) → Stands [] i x → ⊥
-      none x i at = cc
-  all_pairs_decide test R each (x ∷ xs) =
-      Decides-like (test x xs && all_behind test xs) (λ both. pairs_of_both R x xs both.0 both.1)
-      (λ all. (
-        (λ k y at. all 0 (suc k) x y refl at (omega arith)),
-        (λ i k y z at_y at_z less. all (suc i) (suc k) y z at_y at_z (omega (arith, less))),
-      )) (Decides-and (test x xs) (all_behind test xs) (each x xs) (all_pairs_decide test R each xs))
 
   -- and with itself
   abbrev pub EachPairOrSelf : (X → X → Type 0) → List X → Type 0
   EachPairOrSelf R xs = (i k : ℕ) (x y : X) → Stands xs i x → Stands xs k y → i ≤ k → R x y
 
-  selves_of_both : (R : X → X → Type 0) (x : X) (xs : List X) → Each (λ k. R x) (x ∷ xs) → EachPairOrSelf R xs → EachPairOrSelf R (x ∷ xs)
+  pub no_selves : (R : X → X → Type 0) → EachPairOrSelf R []
+  no_selves R i k x y at_x at_y less = cc
+
+  pub selves_of_both : (R : X → X → Type 0) (x : X) (xs : List X) → Each (λ k. R x) (x ∷ xs) → EachPairOrSelf R xs → EachPairOrSelf R (x ∷ xs)
   selves_of_both R x xs first rest zero k y z at_y at_z less = subst (λ v. R v z) (same_some x y at_y) (first k z at_z)
   selves_of_both R x xs first rest (suc i) zero y z at_y at_z less = absurd (omega (arith, less))
   selves_of_both R x xs first rest (suc i) (suc k) y z at_y at_z less = rest i k y z at_y at_z (omega (arith, less))
@@ -123,10 +116,7 @@ module _ {X : Type 0} where
   pub all_selves_decide : (test : X → List X → Bool) (R : X → X → Type 0)
       → ((x : X) (xs : List X) → Decides (test x xs) (Each (λ k. R x) (x ∷ xs))) → (xs : List X)
       → Decides (all_behind test xs) (EachPairOrSelf R xs)
-  all_selves_decide test R each [] = ((λ e i k x y at_x at_y less. absurd (none x i at_x)), (λ h. refl))
-    where
-      none : (x : X) (i : ℕ) → Stands [] i x → ⊥
-      none x i at = cc
+  all_selves_decide test R each [] = ((λ e. no_selves R), (λ h. refl))
   all_selves_decide test R each (x ∷ xs) =
       Decides-like (test x xs && all_behind test xs) (λ both. selves_of_both R x xs both.0 both.1)
       (λ all. (

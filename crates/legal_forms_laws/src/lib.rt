@@ -4,7 +4,7 @@
 //! Laws of the definitions alone. A law is the contract of a function without a body.
 #![tactic(auto)]
 
-ghost use Rattle.legal_forms.specs.Laws.{NamesAreDecided, EntriesAreDecided, BatchesAreDecided, LinesAreDecided, CallsAreDecided, FreshnessIsDecided, LegalityIsDecided};
+ghost use Rattle.legal_forms.specs.Laws.{NamesAreDecided, EntriesAreDecided, FirstWrongIsTold, BatchesAreDecided, LinesAreDecided, CallsAreDecided, FreshnessIsDecided, LegalityIsDecided};
 ghost use Rattle.legal_spec.specs.Laws.{StepsAreJudged};
 
 /// Object calls that are steps of one world, in versions that never fall, are judged as a legal
@@ -21,6 +21,11 @@ pub fn names_are_decided()
 /// Whether its object calls are judged: each at its place.
 pub fn entries_are_decided()
     ensures { EntriesAreDecided }
+{}
+
+/// The place of the first object call that is not judged, where there is one.
+pub fn first_wrong_is_told()
+    ensures { FirstWrongIsTold }
 {}
 
 /// Whether its batches were published by tasks with the privilege.

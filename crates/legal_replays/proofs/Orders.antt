@@ -6,6 +6,7 @@ use Rattle.script_spec.specs.Lines.{ScriptLine}
 use Rattle.script_spec.specs.Tasks.{calls_by, parents_in, task_names}
 use Rattle.world_spec.specs.declared.TaskCall.TheVariants as TaskCall
 use Rattle.world_spec.specs.declared.Call.{Call}
+use Rattle.world_spec.specs.declared.Call.TheVariants as Call
 use Rattle.world_spec.specs.declared.Entry.{Entry}
 use Rattle.world_spec.specs.Steps.{step}
 use Rattle.replay_spec.specs.Replays.{Run}

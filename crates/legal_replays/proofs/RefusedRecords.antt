@@ -38,4 +38,7 @@ refused = record {
   early = refuses wait_before_fork refl;
   other_child = refuses wait_for_sibling refl;
   no_child = refuses wait_for_nobody refl;
+  falls_at = refl;
+  replies_at = refl;
+  nowhere = refl;
 }

@@ -6,7 +6,9 @@ use Rattle.rules_spec.specs.AskedModes.{read, write}
 use Rattle.rules_spec.specs.Versions.{floor}
 use Rattle.rules_spec.specs.declared.Batch.{Batch}
 use Rattle.file_spec.specs.declared.Refusal.{Refusal}
+use Rattle.file_spec.specs.declared.Refusal.TheVariants as Refusal
 use Rattle.file_spec.specs.declared.Compiled.{Compiled}
+use Rattle.file_spec.specs.declared.Compiled.TheVariants as Compiled
 use Rattle.world_spec.specs.declared.Call.TheVariants as Call
 use Rattle.world_spec.specs.declared.TaskCall.TheVariants as TaskCall
 use Rattle.world_spec.specs.declared.Entry.{Entry}

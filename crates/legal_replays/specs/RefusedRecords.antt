@@ -1,4 +1,4 @@
-use Rattle.std.specs.Prelude.{ℕ, List, [], ◌∷◌, ◌++◌, true, false, codes}
+use Rattle.std.specs.Prelude.{◌≡◌, ℕ, List, [], ◌∷◌, ◌++◌, Some, None, true, false, codes}
 use Rattle.smack_base.specs.declared.ids.LabelId.{LabelId}
 use Rattle.smack_base.specs.declared.ids.Pid.{Pid}
 use Rattle.smack_base.specs.declared.cap.Cap.TheVariants as Cap
@@ -19,6 +19,7 @@ use Rattle.record_spec.specs.declared.AskedLine.{AskedLine}
 use Rattle.record_spec.specs.declared.AskedWhat.{AskedWhat}
 use Rattle.record_spec.specs.declared.RunRecord.{RunRecord}
 use Rattle.legal_spec.specs.Legal.{IsLegal}
+use Rattle.legal_forms.specs.Forms.{wrong_place}
 
 -- two labels that the table has behind the predefined ones
 abbrev pub a_label : LabelId
@@ -212,3 +213,7 @@ pub record RefusedRecords : Type 0 where
   pub early : IsLegal wait_before_fork → ⊥
   pub other_child : IsLegal wait_for_sibling → ⊥
   pub no_child : IsLegal wait_for_nobody → ⊥
+  -- the place of the first entry that is not judged, counted from 0; all entries of the last are
+  pub falls_at : wrong_place falling_version ≡ Some 2
+  pub replies_at : wrong_place wrong_reply ≡ Some 0
+  pub nowhere : wrong_place early_entry ≡ None

@@ -14,7 +14,7 @@ pub fn replayed_records_are_legal()
     ensures { ReplayedIsLegal }
 {}
 
-/// Records that are not legal.
+/// Records that are not legal, and where.
 pub fn records_that_are_refused()
     ensures { RefusedRecords }
 {}
