@@ -17,7 +17,7 @@ use Rattle.record_spec.specs.declared.AskedWhat.{AskedWhat}
 use Rattle.record_spec.specs.declared.RunRecord.{RunRecord}
 use Rattle.legal_spec.specs.Legal.{rows_of}
 use Rattle.legal_forms.specs.Same.{same_verdict, same_checks, same_reply}
-use Rattle.legal_forms.specs.MadeCalls.{MadeCall, made_calls, count_of, call_at, MadeFork, forks_of, has_task, task_numbers, version_told, descendants}
+use Rattle.legal_forms.specs.MadeCalls.{MadeCall, made_calls, count_of, call_at, greatest_reached, MadeFork, forks_of, has_task, task_numbers, version_told, descendants}
 
 -- a test of each element with its place, from this place on
 abbrev pub all_from : {X : Type 0} → (ℕ → X → Bool) → ℕ → List X → Bool
@@ -152,10 +152,10 @@ abbrev pub none_late : AskedLine → List ℕ → List Entry → Bool
 none_late a below [] = true
 none_late a below (e ∷ es) = if is_after a e then list_all (λ x. not (has_task below x.task)) (e ∷ es) else none_late a below es
 
--- a wait tells of all that these tasks did
+-- a wait tells of all that these tasks did: none reached more, and none enters later than the waiter
 abbrev pub is_told : RunRecord → AskedLine → List ℕ → Bool
 is_told r a below =
-    list_all (λ c. not (has_task below c.task) || nat_le c.reaches a.version) (made_calls r) && none_late a below r.history
+    list_all (λ task. nat_le (greatest_reached (made_calls r) task) a.version) below && none_late a below r.history
 
 -- the fork made the awaited task, by an earlier call of the waiter
 abbrev pub is_awaited : AskedLine → Pid → MadeFork → Bool

@@ -40,6 +40,15 @@ abbrev pub call_at : List MadeCall → ℕ → ℕ → Option MadeCall
 call_at [] task seq = None
 call_at (c ∷ cs) task seq = if is_call task seq c.task c.seq then Some c else call_at cs task seq
 
+-- the greatest value of the elements with a key; 0 where there is none
+abbrev pub greatest_of : {X : Type 0} → (X → ℕ) → (X → ℕ) → List X → ℕ → ℕ
+greatest_of key value [] k = 0
+greatest_of key value (x ∷ xs) k = if key x == k then max (value x) (greatest_of key value xs k) else greatest_of key value xs k
+
+-- the greatest version that the calls of a task reached
+abbrev pub greatest_reached : List MadeCall → ℕ → ℕ
+greatest_reached = greatest_of (λ c. c.task) (λ c. c.reaches)
+
 -- one fork that made a task: the call, and the task by its number and its pid
 pub record MadeFork : Type 0 where
   pub parent : ℕ
@@ -65,8 +74,7 @@ task_numbers history = 0 ∷ map (λ f. f.number) (forks_of history)
 
 -- the greatest version of the forks that made a task; 0 for the first task
 abbrev pub version_told : List MadeFork → ℕ → ℕ
-version_told [] task = 0
-version_told (f ∷ fs) task = if f.number == task then max f.version (version_told fs task) else version_told fs task
+version_told = greatest_of (λ f. f.number) (λ f. f.version)
 
 -- a child of a task among these joins them
 abbrev pub with_descendant : List ℕ → MadeFork → List ℕ

@@ -1,7 +1,7 @@
 -- Each call once and in order.
-use Rattle.std.proofs.Common.{◌≡◌, ◌≤◌, ◌<◌, ◌⊎◌, ⊎_elim, inl, inr, ℕ, suc, Bool, true, false, not, ◌&&◌, ◌||◌, ◌==◌, if◌then◌else◌, nat_le, nat_lt, List, [], ◌∷◌, refl, sym, ap, ◌∙◌, subst, arith}
+use Rattle.std.proofs.Common.{◌≡◌, ◌≤◌, ◌<◌, ◌⊎◌, ⊎_elim, inl, inr, ℕ, suc, Bool, true, false, ◌&&◌, ◌==◌, if◌then◌else◌, nat_le, nat_lt, List, [], ◌∷◌, refl, sym, ap, ◌∙◌, subst, arith}
 use Rattle.std.specs.Bool.{Decides}
-use Rattle.std.specs.List.{list_all, list_any}
+use Rattle.std.specs.List.{list_any}
 use Rattle.std.proofs.lemmas.Bool.{cases_lt, lt-leb, eqb-true, eq-eqb, and_parts, and_from}
 use Rattle.std.proofs.lemmas.Bool.Decides.{Decides-and, Decides-or, Decides-not, Decides-like, Decides-eqb, Decides-ltb}
 use Rattle.smack_base.specs.declared.ids.Pid.{Pid}
@@ -20,14 +20,6 @@ use Rattle.legal_forms_laws.proofs.MadeCalls.{is_made, made_is, count_at, counts
 use Rattle.legal_forms_laws.proofs.Forks.{has_fork, fork_has, number_decides, task_decides}
 use Rattle.legal_forms_laws.proofs.CallsAt.{has_counts}
 use Rattle.legal_forms_laws.proofs.Numbered.{IsOnce, numbers_decide, none_once}
-
--- a test that is asked only where another passes
-pub implied_decides : {P Q : Type 0} (a b : Bool) → Decides a P → Decides b Q → Decides (not a || b) (P → Q)
-implied_decides true b first second = ((λ e p. second.0 e), (λ implied. second.1 (implied (first.0 refl))))
-implied_decides false b first second = ((λ e p. absurd (wrong (first.1 p))), (λ implied. refl))
-  where
-    wrong : false ≡ true → ⊥
-    wrong is = cc
 
 before_decides : (a b : AskedLine) → Decides (comes_before a b) (IsBefore a b)
 before_decides a b =

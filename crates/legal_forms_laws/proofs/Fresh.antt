@@ -1,5 +1,5 @@
 -- No call is judged in a version older than its task had seen or been told of.
-use Rattle.std.proofs.Common.{◌≡◌, ◌≤◌, ◌<◌, ⊎_elim, inl, inr, ℕ, suc, Bool, true, false, not, ◌&&◌, ◌||◌, ◌==◌, cond, if◌then◌else◌, max, nat_le, nat_lt, List, [], ◌∷◌, refl, sym, ap, ◌∙◌, subst, arith}
+use Rattle.std.proofs.Common.{◌≡◌, ◌≤◌, ◌<◌, ⊎_elim, inl, inr, ℕ, suc, Bool, true, false, not, ◌&&◌, ◌==◌, cond, if◌then◌else◌, max, nat_le, nat_lt, List, [], ◌∷◌, refl, sym, ap, ◌∙◌, subst, arith}
 use Rattle.std.specs.Bool.{Decides}
 use Rattle.std.specs.List.{list_all}
 use Rattle.std.proofs.lemmas.Bool.{cases_lt, eqb-true, eq-eqb}
@@ -11,7 +11,7 @@ use Rattle.record_spec.specs.declared.AskedWhat.{AskedWhat}
 use Rattle.record_spec.specs.declared.RunRecord.{RunRecord}
 use Rattle.legal_spec.specs.Calls.{Stands, IsForkOf, IsCall, batch, entry, asked, Descends}
 use Rattle.legal_spec.specs.Legal.{IsEachCallOnce, HasWaited}
-use Rattle.legal_forms.specs.MadeCalls.{MadeCall, made_calls, MadeFork, forks_of, has_task, task_numbers, version_told, descendants}
+use Rattle.legal_forms.specs.MadeCalls.{MadeCall, made_calls, greatest_of, greatest_reached, MadeFork, forks_of, has_task, task_numbers, version_told, descendants}
 use Rattle.legal_forms.specs.Forms.{has_fresh_calls, is_after, none_late, is_told, is_awaited, has_waited, is_fresh}
 use Rattle.legal_forms.specs.Laws.{FreshnessIsDecided}
 use Rattle.legal_forms_laws.proofs.Quantified.{Each, IsSomewhere, EachPairOrSelf, no_selves, selves_of_both, list_all_decides, list_any_decides}
@@ -19,32 +19,33 @@ use Rattle.legal_forms_laws.proofs.Members.{Has, has_there, place_of_one}
 use Rattle.legal_forms_laws.proofs.MadeCalls.{is_made, made_is}
 use Rattle.legal_forms_laws.proofs.Forks.{fork_of_entry, has_fork, fork_has, number_decides, task_decides}
 use Rattle.legal_forms_laws.proofs.Entries.{le_decides}
-use Rattle.legal_forms_laws.proofs.Calls.{implied_decides, to_list}
+use Rattle.legal_forms_laws.proofs.Calls.{to_list}
 use Rattle.legal_forms_laws.proofs.Walked.{IsInOrder, walk_decides}
 use Rattle.legal_forms_laws.proofs.Lineages.{descendants_decide}
 
--- what a fork of a task tells is told, and no more
-told_above : (forks : List MadeFork) (task : ℕ) (f : MadeFork) → Has forks f → f.number ≡ task → f.version ≤ version_told forks task
-told_above [] task f has same = absurd has
-told_above (g ∷ gs) task f (inl is) same =
-    let here : (g.number == task) ≡ true = eq-eqb g.number task (ap (λ (x : MadeFork). x.number) is ∙ same) in
-    let version : g.version ≡ f.version = ap (λ (x : MadeFork). x.version) is in
-    rw here (omega (arith, version))
-told_above (g ∷ gs) task f (inr has) same = by (g.number == task) (told_above gs task f has same)
-  where
-    by : (b : Bool) → f.version ≤ version_told gs task → f.version ≤ cond b (max g.version (version_told gs task)) (version_told gs task)
-    by true less = omega (arith, less)
-    by false less = less
+-- the greatest value is at least that of each element with the key, and no more than what none of theirs is above
+module _ {X : Type 0} (key value : X → ℕ) where
+  greatest_above : (xs : List X) (y : X) → Has xs y → value y ≤ greatest_of key value xs (key y)
+  greatest_above [] y has = absurd has
+  greatest_above (x ∷ xs) y (inl is) =
+      let here : (key x == key y) ≡ true = eq-eqb (key x) (key y) (ap key is) in
+      let same : value x ≡ value y = ap value is in
+      rw here (omega (arith, same))
+  greatest_above (x ∷ xs) y (inr has) = by (key x == key y) (greatest_above xs y has)
+    where
+      by : (b : Bool) → value y ≤ greatest_of key value xs (key y)
+          → value y ≤ cond b (max (value x) (greatest_of key value xs (key y))) (greatest_of key value xs (key y))
+      by true less = omega (arith, less)
+      by false less = less
 
-told_below : (forks : List MadeFork) (task version : ℕ) → ((f : MadeFork) → Has forks f → f.number ≡ task → f.version ≤ version)
-    → version_told forks task ≤ version
-told_below [] task version each = omega arith
-told_below (g ∷ gs) task version each = by (g.number == task) refl (told_below gs task version (λ f has same. each f (inr has) same))
-  where
-    by : (b : Bool) → (g.number == task) ≡ b → version_told gs task ≤ version
-        → cond b (max g.version (version_told gs task)) (version_told gs task) ≤ version
-    by true is less = omega (arith, less, each g (inl refl) (eqb-true g.number task is))
-    by false is less = less
+  greatest_below : (xs : List X) (k most : ℕ) → ((y : X) → Has xs y → key y ≡ k → value y ≤ most) → greatest_of key value xs k ≤ most
+  greatest_below [] k most each = omega arith
+  greatest_below (x ∷ xs) k most each = by (key x == k) refl (greatest_below xs k most (λ y has same. each y (inr has) same))
+    where
+      by : (b : Bool) → (key x == k) ≡ b → greatest_of key value xs k ≤ most
+          → cond b (max (value x) (greatest_of key value xs k)) (greatest_of key value xs k) ≤ most
+      by true is less = omega (arith, less, each x (inl refl) (eqb-true (key x) k is))
+      by false is less = less
 
 up : (r : RunRecord) (task seq needs reaches : ℕ) → IsCall r task seq needs reaches → needs ≤ reaches
 up r task seq needs reaches (batch i b at) = omega arith
@@ -55,7 +56,7 @@ module _ (r : RunRecord) (calls : IsEachCallOnce r) where
   abbrev forks : List MadeFork
   forks = forks_of r.history
 
-  call_of : (task seq needs reaches : ℕ) → MadeCall
+  abbrev call_of : (task seq needs reaches : ℕ) → MadeCall
   call_of task seq needs reaches = record { task = task; seq = seq; needs = needs; reaches = reaches }
 
   -- the calls of a task, with what its forks tell
@@ -88,7 +89,7 @@ module _ (r : RunRecord) (calls : IsEachCallOnce r) where
   each_forked each i fork pid task seq needs reaches at is call =
       let place = task_of task seq needs reaches call in
       let least = (each place.0 task place.1).forked _ (is_made r task seq needs reaches call) refl in
-      let told = told_above forks task (fork_of_entry fork task pid) (has_fork r.history i fork task pid at is) refl in
+      let told = greatest_above (λ (f : MadeFork). f.number) (λ (f : MadeFork). f.version) forks (fork_of_entry fork task pid) (has_fork r.history i fork task pid at is) in
       omega (arith, least, told)
 
   all_fresh : AreSeen → AreForked → (task : ℕ) → IsFreshTask task
@@ -100,7 +101,7 @@ module _ (r : RunRecord) (calls : IsEachCallOnce r) where
         seen task c.seq c.needs c.reaches d.seq d.needs d.reaches (subst (λ (t : ℕ). IsCall r t c.seq c.needs c.reaches) own first)
         (subst (λ (t : ℕ). IsCall r t d.seq d.needs d.reaches) own' second) less;
     forked = λ c has own.
-        told_below forks task c.needs (λ f among same.
+        greatest_below (λ (f : MadeFork). f.number) (λ (f : MadeFork). f.version) forks task c.needs (λ f among same.
         let fork = fork_has r.history f among in
         let version : fork.fork.version ≡ f.version = ap (λ (g : MadeFork). g.version) fork.same in
         let low =
@@ -128,18 +129,30 @@ module _ (r : RunRecord) (calls : IsEachCallOnce r) where
     IsTold = (task seq needs reaches : ℕ) → Descends r.history number task → IsCall r task seq needs reaches → reaches ≤ a.version
 
     abbrev told : Bool
-    told = list_all (λ c. not (has_task below c.task) || nat_le c.reaches a.version) (made_calls r)
+    told = list_all (λ task. nat_le (greatest_reached (made_calls r) task) a.version) below
+
+    among_below : (task : ℕ) → Descends r.history number task → Has below task
+    among_below task down = (number_decides below task).0 ((below_decides task).1 down)
+
+    told_by : Each (λ i task. greatest_reached (made_calls r) task ≤ a.version) below → IsTold
+    told_by each task seq needs reaches down call =
+        let place = place_of_one below task (among_below task down) in
+        let most = each place.0 task place.1 in
+        let least = greatest_above (λ (c : MadeCall). c.task) (λ (c : MadeCall). c.reaches) (made_calls r) (call_of task seq needs reaches) (is_made r task seq needs reaches call) in
+        omega (arith, most, least)
+
+    told_of : IsTold → Each (λ i task. greatest_reached (made_calls r) task ≤ a.version) below
+    told_of is i task at =
+        let down = (below_decides task).0 ((number_decides below task).1 (has_there below i task at)) in
+        greatest_below (λ (c : MadeCall). c.task) (λ (c : MadeCall). c.reaches) (made_calls r) task a.version
+        (λ c has own. is c.task c.seq c.needs c.reaches (subst (Descends r.history number) (sym own) down) (made_is r c has))
 
     told_decides : Decides told IsTold
     told_decides =
-        Decides-like told
-        (λ each task seq needs reaches down call.
-        let place = place_of_one (made_calls r) _ (is_made r task seq needs reaches call) in each place.0 _ place.1 down)
-        (λ is i c at down. is c.task c.seq c.needs c.reaches down (made_is r c (has_there (made_calls r) i c at)))
-        (list_all_decides (λ c. not (has_task below c.task) || nat_le c.reaches a.version)
-        (λ c. Descends r.history number c.task → c.reaches ≤ a.version)
-        (λ c. implied_decides (has_task below c.task) (nat_le c.reaches a.version) (below_decides c.task) (le_decides c.reaches a.version))
-        (made_calls r))
+        Decides-like told told_by told_of
+        (list_all_decides (λ task. nat_le (greatest_reached (made_calls r) task) a.version)
+        (λ task. greatest_reached (made_calls r) task ≤ a.version)
+        (λ task. le_decides (greatest_reached (made_calls r) task) a.version) below)
 
     -- an entry that the waiter makes afterwards, and one that is not of those who are told of
     abbrev IsApart : Entry → Entry → Type 0
