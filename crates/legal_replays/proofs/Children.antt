@@ -1,6 +1,5 @@
 use Rattle.std.proofs.Common.{◌≡◌, ◌<◌, ℕ, Bool, true, false, not, if◌then◌else◌, List, [], ◌∷◌, length, refl, sym, arith, Option, Some, None}
 use Rattle.std.specs.Prelude.{nat_le}
-use Rattle.std.proofs.lemmas.Bool.{ne_eqb}
 use Rattle.smack_base.specs.declared.ids.Pid.{Pid}
 use Rattle.rules_spec.specs.declared.Verdict.{Verdict}
 use Rattle.rules_spec.specs.Rulings.{Ruling}
@@ -9,16 +8,15 @@ use Rattle.world_spec.specs.declared.Question.{Question}
 use Rattle.world_spec.specs.declared.Part.{Part}
 use Rattle.world_spec.specs.declared.Part.TheVariants as Part
 use Rattle.world_spec.specs.declared.TaskCall.TheVariants as TaskCall
-use Rattle.world_spec.specs.declared.TreeCall.TheVariants as TreeCall
 use Rattle.world_spec.specs.declared.Call.{Call}
 use Rattle.world_spec.specs.declared.Call.TheVariants as Call
 use Rattle.world_spec.specs.declared.Reply.{Reply}
 use Rattle.world_spec.specs.declared.Reply.TheVariants as Reply
-use Rattle.world_spec.specs.Signals.{least_signal}
-use Rattle.world_spec.specs.Worlds.{World, was_made, is_live, pending_of, most_tasks}
+use Rattle.world_spec.specs.Worlds.{World, was_made, is_live, most_tasks}
 use Rattle.world_spec.specs.Questions.{asks}
-use Rattle.world_spec.specs.Steps.{Went, went, verdict_of, Effect, effect, stepped, signal_reply, step}
-use Rattle.world_spec.specs.Replays.{makes}
+use Rattle.world_spec.specs.Steps.{Went, went, verdict_of, Effect, effect, stepped, step}
+use Rattle.world_spec.specs.Replies.{makes}
+use Rattle.world_replays.proofs.Changes.{effect_unmade}
 
 abbrev makes_at_stop : ℕ → Option Reply → Bool
 makes_at_stop k None = false
@@ -42,26 +40,6 @@ none_at_stop k verdict (Part.Asks question ∷ more) = by (verdict question).all
     by true rest = rest
     by false rest = refl
 
-signal_makes_none : (k : ℕ) (sig : Option ℕ) → makes k (signal_reply sig) ≡ false
-signal_makes_none k None = refl
-signal_makes_none k (Some sig) = refl
-
--- a call makes no task that is there
-effect_makes : (w : World) (version : Ruling) (task k : ℕ) (call : Call) → k < length w.tasks → makes k (effect w version task call).reply ≡ false
-effect_makes w version task k (Call.Task (TaskCall.Fork pid)) there = ne_eqb (length w.tasks) k (λ same. omega (arith, there, same))
-effect_makes w version task k (Call.Task TaskCall.Exit) there = refl
-effect_makes w version task k (Call.Task (TaskCall.Relabel l)) there = refl
-effect_makes w version task k (Call.Task (TaskCall.DropCap cap)) there = refl
-effect_makes w version task k (Call.Task (TaskCall.SelfRules rules)) there = refl
-effect_makes w version task k (Call.Task (TaskCall.Relabels labels)) there = refl
-effect_makes w version task k (Call.Task (TaskCall.Kill pid sig)) there = refl
-effect_makes w version task k (Call.Task TaskCall.Take) there = signal_makes_none k (least_signal (pending_of w task))
-effect_makes w version task k (Call.Task (TaskCall.TraceRead pid)) there = refl
-effect_makes w version task k (Call.Task (TaskCall.TraceAttach pid)) there = refl
-effect_makes w version task k (Call.Tree (TreeCall.Create path)) there = refl
-effect_makes w version task k (Call.Tree (TreeCall.Unlink path)) there = refl
-effect_makes w version task k (Call.Tree (TreeCall.ListDir path at)) there = refl
-
 stepped_makes : (w : World) (k : ℕ) (e : Effect) (checks : List Verdict) (stop : Option Reply) → makes_at_stop k stop ≡ false
     → makes k e.reply ≡ false → makes k (stepped w e checks stop).reply ≡ false
 stepped_makes w k e checks None stops none = none
@@ -71,7 +49,7 @@ pub step_makes : (w : World) (version : Ruling) (task k : ℕ) (call : Call) →
 step_makes w version task k call there =
     let through = went (verdict_of w version task) (asks w version task call) in
     stepped_makes w k (effect w version task call) through.checks through.stop (none_at_stop k (verdict_of w version task) (asks w version task call))
-    (effect_makes w version task k call there)
+    (effect_unmade w version task k call there)
 
 same_number : (a b : ℕ) → Reply.Child a ≡ Reply.Child b → a ≡ b
 same_number a b is = cc

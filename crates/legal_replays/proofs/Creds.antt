@@ -9,7 +9,8 @@ use Rattle.script_spec.specs.Lines.{ScriptLine}
 use Rattle.script_spec.specs.Tasks.{calls_by}
 use Rattle.world_spec.specs.declared.Entry.{Entry}
 use Rattle.world_spec.specs.Worlds.{World, world_first, creds_of}
-use Rattle.world_spec.specs.Replays.{AreSteps, StandsOver, version_of, after_entry, replay_of, makes, comes_before_call, up_to_last, cred_at}
+use Rattle.world_spec.specs.Replies.{makes}
+use Rattle.world_spec.specs.Replays.{AreSteps, StandsOver, version_of, after_entry, replay_of, comes_before_call, up_to_last, cred_at}
 use Rattle.replay_spec.specs.Replays.{Run}
 use Rattle.legal_spec.specs.Calls.{entry as entry_call}
 use Rattle.world_replays.proofs.Standing.{longer_stands}

@@ -7,7 +7,8 @@ use Rattle.world_spec.specs.declared.Reply.{Reply}
 use Rattle.world_spec.specs.declared.Reply.TheVariants as Reply
 use Rattle.world_spec.specs.declared.Entry.{Entry}
 use Rattle.world_spec.specs.Worlds.{World, world_first}
-use Rattle.world_spec.specs.Replays.{AreSteps, after_entry, makes, comes_before_call, cred_at}
+use Rattle.world_spec.specs.Replies.{makes}
+use Rattle.world_spec.specs.Replays.{AreSteps, after_entry, comes_before_call, cred_at}
 use Rattle.world_replays.proofs.Points.{kept_at, at_is_now}
 use Rattle.legal_spec.specs.Calls.{Stands}
 use Rattle.task_runs.specs.Deeds.{creds_after}
@@ -34,12 +35,8 @@ stands_drop (suc m) n (y ∷ xs) x s =
     subst (λ i. Stands (y ∷ xs) i x) (let e : suc (m + n) ≡ suc m + n = omega arith in e) (stands_drop m n xs x s)
 
 makes_named : (k : ℕ) (r : Reply) → makes k r ≡ true → r ≡ Reply.Child k
-makes_named k Reply.Ok is = cc
 makes_named k (Reply.Child n) is = ap (λ x. Reply.Child x) (eqb-true n k is)
-makes_named k (Reply.Signal sig) is = cc
-makes_named k (Reply.Names count names) is = cc
-makes_named k (Reply.Denied case) is = cc
-makes_named k (Reply.Refused why) is = cc
+makes_named k reply is = cc
 
 not_before : (k q : ℕ) (e : Entry) → (e.task ≡ k → q ≤ e.seq) → (e.reply ≡ Reply.Child k → ⊥) → comes_before_call k q e ≡ false
 not_before k q e later none = both ((e.task == k) && nat_lt e.seq q) (makes k e.reply) own made

@@ -10,7 +10,7 @@ use Rattle.record_spec.specs.declared.AskedWhat.TheVariants as AskedWhat
 use Rattle.legal_spec.specs.Calls.{Stands, IsForkOf}
 use Rattle.live_table.specs.Lists.{Has, here, there}
 use Rattle.live_table.proofs.Lists.{has_left, has_right, has_either, those-append}
-use Rattle.smack_kernel.specs.Histories.{child_of}
+use Rattle.world_spec.specs.Replies.{child_of}
 use Rattle.task_runs.specs.Scripts.{Scripted, lines_by}
 use Rattle.task_runs.specs.Deeds.{Deed, entered, batched, answered, asked_in, AllAt, IsPlain, IsNoWait, by_version, by_place}
 use Rattle.task_runs.specs.Runs.{Run, ends, does, forks, waited, wait_deeds, own, numbers, asked_of, AllMade, Awaits, Over, Kids, Distinct}

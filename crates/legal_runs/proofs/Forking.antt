@@ -21,7 +21,7 @@ use Rattle.legal_spec.specs.Calls.{Stands, IsNumberOf}
 use Rattle.legal_spec.specs.Lines.{IsCallOfLine}
 use Rattle.live_table.specs.Lists.{Has, here, there}
 use Rattle.live_table.proofs.Lists.{has_right, those-append}
-use Rattle.smack_kernel.specs.Histories.{child_of}
+use Rattle.world_spec.specs.Replies.{child_of}
 use Rattle.smack_kernel.specs.Tasks.{TaskValue, first_task}
 use Rattle.smack_kernel.specs.Answers.{ClosedValue, Closes}
 use Rattle.task_runs.specs.Scripts.{scripted, lines_by}

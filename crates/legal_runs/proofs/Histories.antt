@@ -6,17 +6,14 @@ use Rattle.world_spec.specs.declared.Entry.{Entry}
 use Rattle.std.specs.List.{slice_get}
 use Rattle.legal_spec.specs.Calls.{Stands}
 use Rattle.live_table.specs.Machines.{makes, made, Next, LegalFrom, last_from}
-use Rattle.smack_kernel.specs.Histories.{world_means, child_of}
+use Rattle.world_spec.specs.Replies.{child_of}
+use Rattle.smack_kernel.specs.Histories.{world_means}
 use Rattle.legal_runs.proofs.Lists.{same_some}
 
 -- a reply that names a child
 pub child_named : (r : Reply) (k : ℕ) → child_of r ≡ Some k → r ≡ Reply.Child k
-child_named Reply.Ok k is = cc
 child_named (Reply.Child n) k is = cc
-child_named (Reply.Signal sig) k is = cc
-child_named (Reply.Names count names) k is = cc
-child_named (Reply.Denied case) k is = cc
-child_named (Reply.Refused why) k is = cc
+child_named reply k is = cc
 
 -- children have rising numbers
 pub child_above : (c v n : ℕ) (es : List Entry) (e : Entry) (k : ℕ) → LegalFrom world_means c v es → Stands es n e → child_of e.reply ≡ Some k

@@ -5,7 +5,7 @@ use Rattle.world_spec.specs.declared.Entry.{Entry}
 use Rattle.record_spec.specs.declared.AskedLine.{AskedLine}
 use Rattle.live_table.specs.Lists.{Has, here, there}
 use Rattle.live_table.proofs.Lists.{has_left, has_right, has_either}
-use Rattle.smack_kernel.specs.Histories.{child_of}
+use Rattle.world_spec.specs.Replies.{child_of}
 use Rattle.task_runs.specs.Scripts.{Scripted}
 use Rattle.task_runs.specs.Deeds.{entered, batched, answered, entries_in, Made}
 use Rattle.task_runs.specs.Runs.{Run, ends, does, forks, wait_deeds, own, numbers, AllMade, Kids}

@@ -35,7 +35,8 @@ use Rattle.live_table.specs.Machines.{made}
 use Rattle.live_table.proofs.Closes.{covers}
 use Rattle.live_table.proofs.Lists.{those_none}
 use Rattle.live_table.proofs.TurnSteps.{legal_below}
-use Rattle.smack_kernel.specs.Histories.{world_means, child_of}
+use Rattle.world_spec.specs.Replies.{child_of}
+use Rattle.smack_kernel.specs.Histories.{world_means}
 use Rattle.smack_kernel.specs.Tasks.{TaskValue, first_task}
 use Rattle.smack_kernel.specs.Answers.{ClosedValue, Closes}
 use Rattle.task_runs.specs.Scripts.{Scripted, scripted, lines_by}

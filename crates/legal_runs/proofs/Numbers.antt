@@ -11,7 +11,8 @@ use Rattle.world_spec.specs.Replays.{AreSteps}
 use Rattle.record_spec.specs.declared.AskedLine.{AskedLine}
 use Rattle.legal_spec.specs.Calls.{Stands, IsForkOf, IsNumberOf}
 use Rattle.live_table.specs.Machines.{LegalFrom}
-use Rattle.smack_kernel.specs.Histories.{world_means, child_of}
+use Rattle.world_spec.specs.Replies.{child_of}
+use Rattle.smack_kernel.specs.Histories.{world_means}
 use Rattle.task_runs.specs.Scripts.{Scripted}
 use Rattle.legal_runs.proofs.Lives.{Life}
 use Rattle.legal_runs.proofs.Histories.{child_above, one_child, same_stand}

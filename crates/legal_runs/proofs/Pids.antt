@@ -9,14 +9,13 @@ use Rattle.rules_spec.specs.Rulings.{Ruling}
 use Rattle.world_spec.specs.declared.Why.TheVariants as Why
 use Rattle.world_spec.specs.declared.Part.TheVariants as Part
 use Rattle.world_spec.specs.declared.TaskCall.TheVariants as TaskCall
-use Rattle.world_spec.specs.declared.TreeCall.TheVariants as TreeCall
 use Rattle.world_spec.specs.declared.Call.{Call}
 use Rattle.world_spec.specs.declared.Call.TheVariants as Call
 use Rattle.world_spec.specs.declared.Reply.{Reply}
 use Rattle.world_spec.specs.declared.Reply.TheVariants as Reply
 use Rattle.world_spec.specs.declared.Entry.{Entry}
-use Rattle.world_spec.specs.Worlds.{World, TaskRow, is_of_pid, was_made, is_live, live_task, changed_at, creds_of, task_begun, most_tasks}
-use Rattle.world_spec.specs.Steps.{Effect, signalled, effect, stepped, went, verdict_of, step}
+use Rattle.world_spec.specs.Worlds.{World, TaskRow, is_of_pid, was_made, is_live, changed_at, creds_in, creds_or_first, creds_of, task_begun, most_tasks}
+use Rattle.world_spec.specs.Steps.{Effect, TaskEffect, NoChange, NewCreds, LifeEnds, NewChild, NewSignal, SignalTaken, tasks_after, task_left, effect, stepped, went, verdict_of, step}
 use Rattle.world_spec.specs.Replays.{AreSteps, version_of, after_entry}
 use Rattle.legal_spec.specs.Calls.{Stands, IsForkOf}
 use Rattle.legal_runs.proofs.Lists.{same_some}
@@ -28,27 +27,20 @@ module _ (pid : Pid) where
   made_changed (r ∷ rs) zero f same = ap (λ (p : Pid). (p.0 == pid.0) || list_any (is_of_pid pid) rs) (same r)
   made_changed (r ∷ rs) (suc n) f same = ap (λ b. is_of_pid pid r || b) (made_changed rs n f same)
 
-  made_signalled : (rows : List TaskRow) (target : Option ℕ) (sig : ℕ) → was_made (signalled rows target sig) pid ≡ was_made rows pid
-  made_signalled rows None sig = refl
-  made_signalled rows (Some n) sig = made_changed rows n _ (λ r. refl)
+  change_made : (rows : List TaskRow) (task : ℕ) (change : TaskEffect) → was_made rows pid ≡ true → was_made (tasks_after rows task change) pid ≡ true
+  change_made rows task NoChange is = is
+  change_made rows task (NewCreds creds) is = made_changed rows task _ (λ r. refl) ∙ is
+  change_made rows task LifeEnds is = made_changed rows task _ (λ r. refl) ∙ is
+  change_made rows task (NewChild p) is =
+      let child = task_begun p (creds_or_first (creds_in rows task)) ∷ [] in
+      list_any-append (is_of_pid pid) rows child ∙ ap (λ b. b || list_any (is_of_pid pid) child) is
+  change_made rows task (NewSignal n sig) is = made_changed rows n _ (λ r. refl) ∙ is
+  change_made rows task SignalTaken is = made_changed rows task _ (λ r. refl) ∙ is
 
   effect_made : (w : World) (version : Ruling) (task : ℕ) (call : Call) → was_made w.tasks pid ≡ true
       → was_made (effect w version task call).world.tasks pid ≡ true
-  effect_made w version task (Call.Task (TaskCall.Fork p)) is =
-      list_any-append (is_of_pid pid) w.tasks (task_begun p (creds_of w task) ∷ [])
-      ∙ ap (λ b. b || list_any (is_of_pid pid) (task_begun p (creds_of w task) ∷ [])) is
-  effect_made w version task (Call.Task TaskCall.Exit) is = made_changed w.tasks task _ (λ r. refl) ∙ is
-  effect_made w version task (Call.Task (TaskCall.Relabel l)) is = made_changed w.tasks task _ (λ r. refl) ∙ is
-  effect_made w version task (Call.Task (TaskCall.DropCap cap)) is = made_changed w.tasks task _ (λ r. refl) ∙ is
-  effect_made w version task (Call.Task (TaskCall.SelfRules rules)) is = made_changed w.tasks task _ (λ r. refl) ∙ is
-  effect_made w version task (Call.Task (TaskCall.Relabels labels)) is = made_changed w.tasks task _ (λ r. refl) ∙ is
-  effect_made w version task (Call.Task (TaskCall.Kill p sig)) is = made_signalled w.tasks (live_task w.tasks p) sig ∙ is
-  effect_made w version task (Call.Task TaskCall.Take) is = made_changed w.tasks task _ (λ r. refl) ∙ is
-  effect_made w version task (Call.Task (TaskCall.TraceRead p)) is = is
-  effect_made w version task (Call.Task (TaskCall.TraceAttach p)) is = is
-  effect_made w version task (Call.Tree (TreeCall.Create path)) is = is
-  effect_made w version task (Call.Tree (TreeCall.Unlink path)) is = is
-  effect_made w version task (Call.Tree (TreeCall.ListDir path at)) is = is
+  effect_made w version task (Call.Task call) is = change_made w.tasks task (task_left w version task call).change is
+  effect_made w version task (Call.Tree call) is = is
 
   stepped_made : (w : World) (e : Effect) (checks : List Verdict) (stop : Option Reply) → was_made w.tasks pid ≡ true
       → was_made e.world.tasks pid ≡ true → was_made (stepped w e checks stop).world.tasks pid ≡ true

@@ -8,15 +8,15 @@ use Rattle.rules_spec.specs.Rulings.{Ruling}
 use Rattle.world_spec.specs.declared.Why.TheVariants as Why
 use Rattle.world_spec.specs.declared.Part.TheVariants as Part
 use Rattle.world_spec.specs.declared.TaskCall.TheVariants as TaskCall
-use Rattle.world_spec.specs.declared.TreeCall.TheVariants as TreeCall
 use Rattle.world_spec.specs.declared.Call.{Call}
 use Rattle.world_spec.specs.declared.Call.TheVariants as Call
 use Rattle.world_spec.specs.declared.Reply.{Reply}
 use Rattle.world_spec.specs.declared.Reply.TheVariants as Reply
 use Rattle.world_spec.specs.declared.Entry.{Entry}
-use Rattle.world_spec.specs.Worlds.{World, TaskRow, is_of_pid, was_made, is_live, live_task, changed_at, creds_of, task_begun, most_tasks}
-use Rattle.world_spec.specs.Steps.{Effect, signalled, effect, stepped, went, verdict_of, step}
+use Rattle.world_spec.specs.Worlds.{World, TaskRow, is_of_pid, was_made, is_live, changed_at, creds_of, task_begun, most_tasks}
+use Rattle.world_spec.specs.Steps.{Effect, TaskEffect, NoChange, NewCreds, LifeEnds, NewChild, NewSignal, SignalTaken, tasks_after, task_left, effect, stepped, went, verdict_of, step}
 use Rattle.world_spec.specs.Replays.{AreSteps, version_of, after_entry}
+use Rattle.world_replays.proofs.Changes.{BeginsNone, EndsNone, begins_none, ends_none}
 use Rattle.legal_replays.proofs.Children.{fork_number}
 use Rattle.legal_spec.specs.Calls.{Stands, IsForkOf}
 use Rattle.live_table.specs.Lists.{Has, here, there}
@@ -65,25 +65,21 @@ live_last (x ∷ rs) r is = live_last rs r is
 
 -- a task goes on living where the call is not its exit
 module _ (k : ℕ) where
-  signalled_live : (rows : List TaskRow) (target : Option ℕ) (sig : ℕ) → is_live rows k ≡ true → is_live (signalled rows target sig) k ≡ true
-  signalled_live rows None sig is = is
-  signalled_live rows (Some n) sig is = changed_live rows n k _ (λ r. refl) ∙ is
+  change_live : (rows : List TaskRow) (task : ℕ) (change : TaskEffect) → (task ≡ k → EndsNone change) → is_live rows k ≡ true
+      → is_live (tasks_after rows task change) k ≡ true
+  change_live rows task NoChange stays is = is
+  change_live rows task (NewCreds creds) stays is = changed_live rows task k _ (λ r. refl) ∙ is
+  change_live rows task LifeEnds stays is = other_live rows task k _ stays ∙ is
+  change_live rows task (NewChild pid) stays is = live_more rows _ k is
+  change_live rows task (NewSignal n sig) stays is = changed_live rows n k _ (λ r. refl) ∙ is
+  change_live rows task SignalTaken stays is = changed_live rows task k _ (λ r. refl) ∙ is
 
   effect_live : (w : World) (version : Ruling) (task : ℕ) (call : Call) → (task ≡ k → call ≡ Call.Task TaskCall.Exit → ⊥) → is_live w.tasks k ≡ true
       → is_live (effect w version task call).world.tasks k ≡ true
-  effect_live w version task (Call.Task (TaskCall.Fork p)) stays is = live_more w.tasks (task_begun p (creds_of w task) ∷ []) k is
-  effect_live w version task (Call.Task TaskCall.Exit) stays is = other_live w.tasks task k _ (λ e. stays e refl) ∙ is
-  effect_live w version task (Call.Task (TaskCall.Relabel l)) stays is = changed_live w.tasks task k _ (λ r. refl) ∙ is
-  effect_live w version task (Call.Task (TaskCall.DropCap cap)) stays is = changed_live w.tasks task k _ (λ r. refl) ∙ is
-  effect_live w version task (Call.Task (TaskCall.SelfRules rules)) stays is = changed_live w.tasks task k _ (λ r. refl) ∙ is
-  effect_live w version task (Call.Task (TaskCall.Relabels labels)) stays is = changed_live w.tasks task k _ (λ r. refl) ∙ is
-  effect_live w version task (Call.Task (TaskCall.Kill p sig)) stays is = signalled_live w.tasks (live_task w.tasks p) sig is
-  effect_live w version task (Call.Task TaskCall.Take) stays is = changed_live w.tasks task k _ (λ r. refl) ∙ is
-  effect_live w version task (Call.Task (TaskCall.TraceRead p)) stays is = is
-  effect_live w version task (Call.Task (TaskCall.TraceAttach p)) stays is = is
-  effect_live w version task (Call.Tree (TreeCall.Create path)) stays is = is
-  effect_live w version task (Call.Tree (TreeCall.Unlink path)) stays is = is
-  effect_live w version task (Call.Tree (TreeCall.ListDir path at)) stays is = is
+  effect_live w version task (Call.Task call) stays is =
+      change_live w.tasks task (task_left w version task call).change
+      (λ own. ends_none w version task call (λ exits. stays own (ap (λ c. Call.Task c) exits))) is
+  effect_live w version task (Call.Tree call) stays is = is
 
   stepped_live : (w : World) (e : Effect) (checks : List Verdict) (stop : Option Reply) → is_live w.tasks k ≡ true
       → is_live e.world.tasks k ≡ true → is_live (stepped w e checks stop).world.tasks k ≡ true
@@ -162,10 +158,6 @@ changed_pids [] n f same = refl
 changed_pids (r ∷ rs) zero f same = ap (λ (p : Pid). p.0 ∷ pids_of rs) (same r)
 changed_pids (r ∷ rs) (suc n) f same = ap (λ (ps : List ℕ). r.pid.0 ∷ ps) (changed_pids rs n f same)
 
-signalled_pids : (rows : List TaskRow) (target : Option ℕ) (sig : ℕ) → pids_of (signalled rows target sig) ≡ pids_of rows
-signalled_pids rows None sig = refl
-signalled_pids rows (Some n) sig = changed_pids rows n _ (λ r. refl)
-
 pids-append : (rows : List TaskRow) (r : TaskRow) → pids_of (rows ++ r ∷ []) ≡ pids_of rows ++ r.pid.0 ∷ []
 pids-append [] r = refl
 pids-append (x ∷ rs) r = ap (λ (ps : List ℕ). x.pid.0 ∷ ps) (pids-append rs r)
@@ -202,21 +194,20 @@ record MadeOne (w : World) (call : Call) (reply : Reply) (after : List TaskRow) 
   replied : reply ≡ Reply.Child (length w.tasks)
   pids : pids_of after ≡ pids_of w.tasks ++ pid.0 ∷ []
 
+change_pids : (rows : List TaskRow) (task : ℕ) (change : TaskEffect) → BeginsNone change → pids_of (tasks_after rows task change) ≡ pids_of rows
+change_pids rows task NoChange none = refl
+change_pids rows task (NewCreds creds) none = changed_pids rows task _ (λ r. refl)
+change_pids rows task LifeEnds none = changed_pids rows task _ (λ r. refl)
+change_pids rows task (NewChild pid) none = absurd none
+change_pids rows task (NewSignal n sig) none = changed_pids rows n _ (λ r. refl)
+change_pids rows task SignalTaken none = changed_pids rows task _ (λ r. refl)
+
 effect_pids : (w : World) (version : Ruling) (task : ℕ) (call : Call) → ((pid : Pid) → call ≡ Call.Task (TaskCall.Fork pid) → ⊥)
     → pids_of (effect w version task call).world.tasks ≡ pids_of w.tasks
-effect_pids w version task (Call.Task (TaskCall.Fork p)) other = absurd (other p refl)
-effect_pids w version task (Call.Task TaskCall.Exit) other = changed_pids w.tasks task _ (λ r. refl)
-effect_pids w version task (Call.Task (TaskCall.Relabel l)) other = changed_pids w.tasks task _ (λ r. refl)
-effect_pids w version task (Call.Task (TaskCall.DropCap cap)) other = changed_pids w.tasks task _ (λ r. refl)
-effect_pids w version task (Call.Task (TaskCall.SelfRules rules)) other = changed_pids w.tasks task _ (λ r. refl)
-effect_pids w version task (Call.Task (TaskCall.Relabels labels)) other = changed_pids w.tasks task _ (λ r. refl)
-effect_pids w version task (Call.Task (TaskCall.Kill p sig)) other = signalled_pids w.tasks (live_task w.tasks p) sig
-effect_pids w version task (Call.Task TaskCall.Take) other = changed_pids w.tasks task _ (λ r. refl)
-effect_pids w version task (Call.Task (TaskCall.TraceRead p)) other = refl
-effect_pids w version task (Call.Task (TaskCall.TraceAttach p)) other = refl
-effect_pids w version task (Call.Tree (TreeCall.Create path)) other = refl
-effect_pids w version task (Call.Tree (TreeCall.Unlink path)) other = refl
-effect_pids w version task (Call.Tree (TreeCall.ListDir path at)) other = refl
+effect_pids w version task (Call.Task call) other =
+    change_pids w.tasks task (task_left w version task call).change
+    (begins_none w version task call (λ pid forks. other pid (ap (λ c. Call.Task c) forks)))
+effect_pids w version task (Call.Tree call) other = refl
 
 stepped_pids : (w : World) (e : Effect) (checks : List Verdict) (stop : Option Reply) → pids_of e.world.tasks ≡ pids_of w.tasks
     → pids_of (stepped w e checks stop).world.tasks ≡ pids_of w.tasks
@@ -254,16 +245,7 @@ fork_pids w version task pid = by (not (is_live w.tasks task)) (was_made w.tasks
 
 step_pids : (w : World) (version : Ruling) (task : ℕ) (call : Call) → KeepsPids w version task call
 step_pids w version task (Call.Task (TaskCall.Fork p)) = fork_pids w version task p
-step_pids w version task (Call.Task TaskCall.Exit) = other_pids w version task (Call.Task TaskCall.Exit) (λ p e. cc)
-step_pids w version task (Call.Task (TaskCall.Relabel l)) = other_pids w version task (Call.Task (TaskCall.Relabel l)) (λ p e. cc)
-step_pids w version task (Call.Task (TaskCall.DropCap cap)) = other_pids w version task (Call.Task (TaskCall.DropCap cap)) (λ p e. cc)
-step_pids w version task (Call.Task (TaskCall.SelfRules rules)) = other_pids w version task (Call.Task (TaskCall.SelfRules rules)) (λ p e. cc)
-step_pids w version task (Call.Task (TaskCall.Relabels labels)) = other_pids w version task (Call.Task (TaskCall.Relabels labels)) (λ p e. cc)
-step_pids w version task (Call.Task (TaskCall.Kill p sig)) = other_pids w version task (Call.Task (TaskCall.Kill p sig)) (λ p e. cc)
-step_pids w version task (Call.Task TaskCall.Take) = other_pids w version task (Call.Task TaskCall.Take) (λ p e. cc)
-step_pids w version task (Call.Task (TaskCall.TraceRead p)) = other_pids w version task (Call.Task (TaskCall.TraceRead p)) (λ p e. cc)
-step_pids w version task (Call.Task (TaskCall.TraceAttach p)) = other_pids w version task (Call.Task (TaskCall.TraceAttach p)) (λ p e. cc)
-step_pids w version task (Call.Tree call) = other_pids w version task (Call.Tree call) (λ p e. cc)
+step_pids w version task call = other_pids w version task call (λ p e. cc)
 
 -- the fork that made the task of a pid, before a place
 pub record MadeBefore (es : List Entry) (n p : ℕ) : Type 0 where

@@ -4,7 +4,7 @@ use Rattle.atomic_table.specs.Seated.{TableId}
 use Rattle.world_spec.specs.declared.Entry.{Entry}
 use Rattle.script_spec.specs.Lines.{ScriptLine}
 use Rattle.live_table.specs.Lists.{Has, here, there}
-use Rattle.smack_kernel.specs.Histories.{child_of}
+use Rattle.world_spec.specs.Replies.{child_of}
 use Rattle.smack_kernel.specs.Tasks.{TaskValue, first_task}
 use Rattle.smack_kernel.specs.Answers.{IsWhole}
 use Rattle.task_runs.specs.Scripts.{Scripted}

@@ -9,21 +9,24 @@ use Rattle.world_spec.specs.declared.Question.{Question}
 use Rattle.world_spec.specs.declared.Question.TheVariants as Question
 use Rattle.world_spec.specs.declared.Part.TheVariants as Part
 use Rattle.world_spec.specs.declared.Why.TheVariants as Why
+use Rattle.world_spec.specs.declared.TaskCall.{TaskCall}
 use Rattle.world_spec.specs.declared.TaskCall.TheVariants as TaskCall
 use Rattle.world_spec.specs.declared.TreeCall.TheVariants as TreeCall
 use Rattle.world_spec.specs.declared.Call.{Call}
 use Rattle.world_spec.specs.declared.Call.TheVariants as Call
+use Rattle.world_spec.specs.declared.Answer.{Answer}
+use Rattle.world_spec.specs.Replies.{answered}
 use Rattle.world_spec.specs.Signals.{least_signal}
-use Rattle.world_spec.specs.Worlds.{World, TaskRow, is_live, live_task, creds_of, pending_of, changed_at}
+use Rattle.world_spec.specs.Worlds.{World, TaskRow, is_live, live_task, creds_of, pending_of}
 use Rattle.world_spec.specs.Questions.{call_asks, walk, walk_to_last, first_name, node_label}
-use Rattle.world_spec.specs.Steps.{verdict_by_creds, verdict_of, relabelled, signalled, signal_reply, went, effect, stepped, step}
+use Rattle.world_spec.specs.Steps.{verdict_by_creds, verdict_of, relabelled, TaskEffect, NewChild, signal_answer, task_left, task_reply, went, effect, stepped, step}
 use Rattle.replay_spec.specs.Plain.{HasId, IsPlainVerdict, IsPlainReply, IsPlainCall}
 use Rattle.replay_spec.proofs.ReadCalls.{IsReadCall, plain_is_read}
 use Rattle.plain_records.proofs.Lists.{all_append}
 use Rattle.plain_records.proofs.Steps.{IsPlainQuestion, IsPlainPart, IsPlainEffect, IsPlainStepped, step_by_parts}
 use Rattle.plain_records.proofs.PlainVerdicts.{verdict_is_plain, attach_is_plain}
 use Rattle.plain_records.proofs.PathWords.{path_has_words}
-use Rattle.plain_records.proofs.PlainWorlds.{IsPlainTask, IsPlainWorld, task_label_is_known, other_label_is_known, changed_are_plain, file_label_is_known, files_with_one, files_without_one, listed_are_words}
+use Rattle.plain_records.proofs.PlainWorlds.{IsPlainWorld, task_label_is_known, other_label_is_known, IsPlainChange, signalled_is_plain, tasks_after_are_plain, file_label_is_known, files_with_one, files_without_one, listed_are_words}
 
 -- a walk asks on the root alone
 walk_to_last_is_plain : (table : List (List ℕ)) (w : World) → IsPlainWorld table w → (path : List (List ℕ))
@@ -48,6 +51,14 @@ relabelled_label c version l = by (is_effective c Cap.MacAdmin version)
     by : (privileged : Bool) → (if privileged then with_label c l else record (with_label c l) { relabels = [] }).label ≡ l
     by true = refl
     by false = refl
+
+signal_answer_is_plain : (sig : Option ℕ) → IsPlainReply (answered (signal_answer sig))
+signal_answer_is_plain None = tt
+signal_answer_is_plain (Some sig) = tt
+
+task_reply_is_plain : (tasks : List TaskRow) (change : TaskEffect) (answer : Answer) → IsPlainReply (answered answer) → IsPlainReply (task_reply tasks change answer)
+task_reply_is_plain tasks (NewChild pid) answer known = tt
+task_reply_is_plain tasks change answer known = known
 
 module _ (table : List (List ℕ)) (first : 0 < length table) (w : World) (plain : IsPlainWorld table w) (version : Ruling) (task : ℕ) where
   node_label_is_known : (path : List (List ℕ)) → HasId table (node_label w path)
@@ -80,24 +91,6 @@ module _ (table : List (List ℕ)) (first : 0 < length table) (w : World) (plain
       verdict_is_plain table (creds_of w task) version (creds_of w task).label o m (task_label_is_known table first w plain task) known
   question_is_plain (Question.Attach o) known = attach_is_plain table (creds_of w task) version o (task_label_is_known table first w plain task) known
 
-  -- tasks that are plain leave the world plain
-  abbrev left : List TaskRow → World
-  left tasks = record w { tasks = tasks }
-
-  left_is_plain : (tasks : List TaskRow) → AllByRecursion (IsPlainTask table) tasks → IsPlainWorld table (left tasks)
-  left_is_plain tasks all = record { tasks = all; root = plain.root; files = plain.files }
-
-  changed : (n : ℕ) (change : TaskRow → TaskRow) → ((r : TaskRow) → IsPlainTask table r → IsPlainTask table (change r)) → IsPlainWorld table (left (changed_at w.tasks n change))
-  changed n change keeps = left_is_plain (changed_at w.tasks n change) (changed_are_plain table w.tasks n change plain.tasks keeps)
-
-  signalled_is_plain : (n : Option ℕ) (sig : ℕ) → IsPlainWorld table (left (signalled w.tasks n sig))
-  signalled_is_plain None sig = left_is_plain w.tasks plain.tasks
-  signalled_is_plain (Some n) sig = changed n _ (λ r known. known)
-
-  signal_reply_is_plain : (sig : Option ℕ) → IsPlainReply (signal_reply sig)
-  signal_reply_is_plain None = tt
-  signal_reply_is_plain (Some sig) = tt
-
   own_label : HasId table (creds_of w task).label
   own_label = task_label_is_known table first w plain task
 
@@ -113,29 +106,35 @@ module _ (table : List (List ℕ)) (first : 0 < length table) (w : World) (plain
       by true = record { world = plain; checks = tt; reply = tt }
       by false = record { world = plain; checks = tt; reply = tt }
 
+  -- what a call of plain words does to the tasks has a known label
+  change_is_plain : (names : List (List ℕ)) (call : TaskCall) → IsReadCall table names (Call.Task call) → IsPlainChange table (task_left w version task call).change
+  change_is_plain names (TaskCall.Relabel l) read = rw (relabelled_label (creds_of w task) version l) read
+  change_is_plain names (TaskCall.DropCap cap) read = rw (label_without_cap (creds_of w task) cap) own_label
+  change_is_plain names (TaskCall.SelfRules rules) read = own_label
+  change_is_plain names (TaskCall.Relabels list) read = own_label
+  change_is_plain names (TaskCall.Kill pid sig) read = signalled_is_plain table (live_task w.tasks pid) sig
+  change_is_plain names call read = tt
+
+  answer_is_plain : (call : TaskCall) → IsPlainReply (answered (task_left w version task call).answer)
+  answer_is_plain TaskCall.Take = signal_answer_is_plain (least_signal (pending_of w task))
+  answer_is_plain call = tt
+
+  task_step : (names : List (List ℕ)) (call : TaskCall) → IsReadCall table names (Call.Task call) → IsPlainStepped table (step w version task (Call.Task call))
+  task_step names call read =
+      let left = task_left w version task call in
+      step_by_effect (Call.Task call)
+      (record {
+        world = record {
+          tasks = tasks_after_are_plain table first w.tasks task left.change plain.tasks (change_is_plain names call read);
+          root = plain.root;
+          files = plain.files;
+        };
+        reply = task_reply_is_plain w.tasks left.change left.answer (answer_is_plain call);
+      })
+
   -- A call of plain words has a plain step; a path without a name is refused before a file is made of it.
   step_of_words : (names : List (List ℕ)) (call : Call) → IsReadCall table names call → IsPlainStepped table (step w version task call)
-  step_of_words names (Call.Task (TaskCall.Fork pid)) read =
-      step_by_effect (Call.Task (TaskCall.Fork pid))
-      (record { world = left_is_plain _ (all_append (IsPlainTask table) w.tasks _ plain.tasks (own_label, tt)); reply = tt })
-  step_of_words names (Call.Task TaskCall.Exit) read = step_by_effect (Call.Task TaskCall.Exit) (record { world = changed task _ (λ r known. known); reply = tt })
-  step_of_words names (Call.Task (TaskCall.Relabel l)) read =
-      step_by_effect (Call.Task (TaskCall.Relabel l))
-      (record { world = changed task _ (λ r known. rw (relabelled_label (creds_of w task) version l) read); reply = tt })
-  step_of_words names (Call.Task (TaskCall.DropCap cap)) read =
-      step_by_effect (Call.Task (TaskCall.DropCap cap))
-      (record { world = changed task _ (λ r known. rw (label_without_cap (creds_of w task) cap) own_label); reply = tt })
-  step_of_words names (Call.Task (TaskCall.SelfRules rules)) read =
-      step_by_effect (Call.Task (TaskCall.SelfRules rules)) (record { world = changed task _ (λ r known. own_label); reply = tt })
-  step_of_words names (Call.Task (TaskCall.Relabels list)) read =
-      step_by_effect (Call.Task (TaskCall.Relabels list)) (record { world = changed task _ (λ r known. own_label); reply = tt })
-  step_of_words names (Call.Task (TaskCall.Kill pid sig)) read =
-      step_by_effect (Call.Task (TaskCall.Kill pid sig)) (record { world = signalled_is_plain (live_task w.tasks pid) sig; reply = tt })
-  step_of_words names (Call.Task TaskCall.Take) read =
-      step_by_effect (Call.Task TaskCall.Take)
-      (record { world = changed task _ (λ r known. known); reply = signal_reply_is_plain (least_signal (pending_of w task)) })
-  step_of_words names (Call.Task (TaskCall.TraceRead pid)) read = step_by_effect (Call.Task (TaskCall.TraceRead pid)) (record { world = plain; reply = tt })
-  step_of_words names (Call.Task (TaskCall.TraceAttach pid)) read = step_by_effect (Call.Task (TaskCall.TraceAttach pid)) (record { world = plain; reply = tt })
+  step_of_words names (Call.Task call) read = task_step names call read
   step_of_words names (Call.Tree (TreeCall.Create [])) read = refused_at_root
   step_of_words names (Call.Tree (TreeCall.Create (n ∷ ns))) read =
       step_by_effect (Call.Tree (TreeCall.Create (n ∷ ns)))

@@ -10,7 +10,7 @@ use Rattle.std.proofs.lemmas.Map.Views.{All-insert_key}
 use Rattle.world_spec.specs.declared.FileRow.{FileRow}
 use Rattle.world_spec.specs.Worlds.{World, TaskRow, world_first, creds_in, creds_or_first, creds_of, changed_at, has_name, label_of, label_or_floor, with_file, without_file, names_of, in_byte_order}
 use Rattle.world_spec.specs.Questions.{label_of_task}
-use Rattle.world_spec.specs.Steps.{most_names}
+use Rattle.world_spec.specs.Steps.{most_names, TaskEffect, NoChange, NewCreds, LifeEnds, NewChild, NewSignal, SignalTaken, signalled, tasks_after}
 use Rattle.log_spec.specs.Audits.{is_word}
 use Rattle.replay_spec.specs.Plain.{HasId}
 use Rattle.plain_records.proofs.Lists.{all_append, all_take, all_drop, all_map}
@@ -57,6 +57,26 @@ pub changed_are_plain : (table : List (List ℕ)) (tasks : List TaskRow) (task :
 changed_are_plain table [] task change plain keeps = tt
 changed_are_plain table (r ∷ rs) zero change plain keeps = (keeps r plain.0, plain.1)
 changed_are_plain table (r ∷ rs) (suc n) change plain keeps = (plain.0, changed_are_plain table rs n change plain.1 keeps)
+
+-- a change of the tasks to a known label
+abbrev pub IsPlainChange : List (List ℕ) → TaskEffect → Type 0
+IsPlainChange table (NewCreds creds) = HasId table creds.label
+IsPlainChange table change = Unit {0}
+
+pub signalled_is_plain : (table : List (List ℕ)) (n : Option ℕ) (sig : ℕ) → IsPlainChange table (signalled n sig)
+signalled_is_plain table None sig = tt
+signalled_is_plain table (Some n) sig = tt
+
+-- it leaves plain tasks plain
+pub tasks_after_are_plain : (table : List (List ℕ)) → 0 < length table → (tasks : List TaskRow) (task : ℕ) (change : TaskEffect)
+    → AllByRecursion (IsPlainTask table) tasks → IsPlainChange table change → AllByRecursion (IsPlainTask table) (tasks_after tasks task change)
+tasks_after_are_plain table first tasks task NoChange plain known = plain
+tasks_after_are_plain table first tasks task (NewCreds creds) plain known = changed_are_plain table tasks task _ plain (λ r was. known)
+tasks_after_are_plain table first tasks task LifeEnds plain known = changed_are_plain table tasks task _ plain (λ r was. was)
+tasks_after_are_plain table first tasks task (NewChild pid) plain known =
+    all_append (IsPlainTask table) tasks _ plain (creds_are_known table first tasks task plain, tt)
+tasks_after_are_plain table first tasks task (NewSignal n sig) plain known = changed_are_plain table tasks n _ plain (λ r was. was)
+tasks_after_are_plain table first tasks task SignalTaken plain known = changed_are_plain table tasks task _ plain (λ r was. was)
 
 -- the label of a file is known, and that of none is the first
 pub file_label_is_known : (table : List (List ℕ)) → 0 < length table → (files : List FileRow) (name : List ℕ) → AllByRecursion (IsPlainFile table) files

@@ -3,8 +3,8 @@ use Rattle.std.specs.List.{list_any, insert, position_or_len}
 use Rattle.smack_base.specs.declared.ids.Pid.{Pid}
 use Rattle.world_spec.specs.declared.TaskCall.{TaskCall}
 use Rattle.world_spec.specs.declared.Call.{Call}
-use Rattle.world_spec.specs.declared.Reply.{Reply}
 use Rattle.world_spec.specs.declared.Entry.{Entry}
+use Rattle.world_spec.specs.Replies.{child_of}
 use Rattle.record_spec.specs.declared.NumberedTask.{NumberedTask}
 
 abbrev pub task_forked : TaskCall → Option Pid
@@ -24,23 +24,14 @@ abbrev pub forked : Call → Option Pid
 forked (Call.Task call) = task_forked call
 forked (Call.Tree call) = None
 
--- the number of the task that a call made
-abbrev pub child_number : Reply → Option ℕ
-child_number Reply.Ok = None
-child_number (Reply.Child k) = Some k
-child_number (Reply.Signal sig) = None
-child_number (Reply.Names count names) = None
-child_number (Reply.Denied case) = None
-child_number (Reply.Refused why) = None
-
 abbrev pub child_by : Option Pid → Option ℕ → Option NumberedTask
 child_by None k = None
 child_by (Some pid) None = None
 child_by (Some pid) (Some k) = Some (record { number = k; pid = pid })
 
 -- the task that an entry made, where it made one
-abbrev pub child_of : Entry → Option NumberedTask
-child_of e = child_by (forked e.call) (child_number e.reply)
+abbrev pub numbered_child : Entry → Option NumberedTask
+numbered_child e = child_by (forked e.call) (child_of e.reply)
 
 -- tasks by rising number; of two with one number the first stays
 abbrev pub with_task : List NumberedTask → NumberedTask → List NumberedTask
@@ -57,4 +48,4 @@ first_task = record { number = 0; pid = record { 0 = 0 } }
 
 -- the tasks of a run by rising number: the first, and those that its entries made
 abbrev pub run_tasks : List Entry → List NumberedTask
-run_tasks history = fold (λ tasks e. with_child tasks (child_of e)) (first_task ∷ []) history
+run_tasks history = fold (λ tasks e. with_child tasks (numbered_child e)) (first_task ∷ []) history

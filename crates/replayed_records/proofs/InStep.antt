@@ -37,7 +37,8 @@ use Rattle.replay_spec.specs.Replays.{Run, or_none_yet, number_of_task, noted, p
 use Rattle.replay_spec.proofs.ReadCalls.{of_none_holds, of_one_holds, of_two_holds}
 use Rattle.plain_records.proofs.GoodLines.{IsGoodLine, good_verb}
 use Rattle.plain_records.proofs.Tasks.{names_more, names_behind}
-use Rattle.replayed_records.proofs.Numbers.{AreNumbered, AreKept, changed_many, IsQuiet, same_exits, exit_numbered, push_numbered, live_numbered, none_made, row_is_live, quiet_kept, exit_done, fork_done}
+use Rattle.replayed_records.proofs.Numbers.{AreNumbered, AreKept, IsQuiet, same_exits, exit_numbered, push_numbered, live_numbered, none_made, row_is_live, quiet_kept, exit_done, fork_done}
+use Rattle.world_replays.proofs.Changes.{length_changed}
 
 -- a verb whose calls neither make a task nor end one
 abbrev pub IsQuietVerb : Verb → Type 0
@@ -188,7 +189,7 @@ exit_in_step above l tasks after there step exits nothing is =
       numbered =
           exit_numbered (has_exit above) (has_exit (above ++ l ∷ [])) 0 tasks l.task (ap (has_exit (above ++ l ∷ [])) zero_more ∙ gone)
           (λ j apart. other_exit above l j (λ e. apart (sym e ∙ sym zero_more))) step.numbered;
-      many = changed_many tasks l.task _ ∙ step.many ∙ sym (ap (λ (t : List (List ℕ)). length t) names);
+      many = length_changed tasks l.task _ ∙ step.many ∙ sym (ap (λ (t : List (List ℕ)). length t) names);
       later = later_more above l there step.later;
     })
 

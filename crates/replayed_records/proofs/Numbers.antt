@@ -5,13 +5,13 @@ use Rattle.smack_base.specs.declared.ids.Pid.{Pid}
 use Rattle.rules_spec.specs.declared.Verdict.{Verdict}
 use Rattle.rules_spec.specs.Rulings.{Ruling}
 use Rattle.world_spec.specs.declared.TaskCall.TheVariants as TaskCall
-use Rattle.world_spec.specs.declared.TreeCall.TheVariants as TreeCall
 use Rattle.world_spec.specs.declared.Call.{Call}
 use Rattle.world_spec.specs.declared.Call.TheVariants as Call
 use Rattle.world_spec.specs.declared.Reply.{Reply}
 use Rattle.world_spec.specs.Worlds.{World, TaskRow, was_made, live_task, is_live, creds_of, changed_at, with_child, without_life, most_tasks}
 use Rattle.world_spec.specs.Questions.{asks}
-use Rattle.world_spec.specs.Steps.{went, verdict_of, signalled, Effect, effect, stepped, step}
+use Rattle.world_spec.specs.Steps.{went, verdict_of, TaskEffect, NoChange, NewCreds, LifeEnds, NewChild, NewSignal, SignalTaken, tasks_after, task_left, Effect, effect, stepped, step}
+use Rattle.world_replays.proofs.Changes.{BeginsNone, EndsNone, begins_none, ends_none, length_changed}
 
 -- Tasks from a number on: each has its number as its pid, and is live unless it has exited.
 abbrev pub AreNumbered : (ℕ → Bool) → ℕ → List TaskRow → Type 0
@@ -108,20 +108,7 @@ row_is_live exited k (r ∷ rs) (suc n) within stays are =
 abbrev pub IsQuiet : Call → Type 0
 IsQuiet (Call.Task (TaskCall.Fork pid)) = ⊥
 IsQuiet (Call.Task TaskCall.Exit) = ⊥
-IsQuiet (Call.Task (TaskCall.Relabel l)) = Unit {0}
-IsQuiet (Call.Task (TaskCall.DropCap cap)) = Unit {0}
-IsQuiet (Call.Task (TaskCall.SelfRules rules)) = Unit {0}
-IsQuiet (Call.Task (TaskCall.Relabels list)) = Unit {0}
-IsQuiet (Call.Task (TaskCall.Kill pid sig)) = Unit {0}
-IsQuiet (Call.Task TaskCall.Take) = Unit {0}
-IsQuiet (Call.Task (TaskCall.TraceRead pid)) = Unit {0}
-IsQuiet (Call.Task (TaskCall.TraceAttach pid)) = Unit {0}
-IsQuiet (Call.Tree call) = Unit {0}
-
-pub changed_many : (tasks : List TaskRow) (n : ℕ) (change : TaskRow → TaskRow) → length (changed_at tasks n change) ≡ length tasks
-changed_many [] n change = refl
-changed_many (r ∷ rs) zero change = refl
-changed_many (r ∷ rs) (suc n) change = ap suc (changed_many rs n change)
+IsQuiet call = Unit {0}
 
 -- the tasks after a call are numbered, and are as many
 pub record AreKept (exited : ℕ → Bool) (before after : List TaskRow) : Type 0 where
@@ -130,30 +117,28 @@ pub record AreKept (exited : ℕ → Bool) (before after : List TaskRow) : Type 
 
 changed_kept : (exited : ℕ → Bool) (tasks : List TaskRow) (n : ℕ) (change : TaskRow → TaskRow) → KeepsTask change → AreNumbered exited 0 tasks
     → AreKept exited tasks (changed_at tasks n change)
-changed_kept exited tasks n change keeps are = record { numbered = changed_numbered exited 0 tasks n change keeps are; many = changed_many tasks n change }
+changed_kept exited tasks n change keeps are = record { numbered = changed_numbered exited 0 tasks n change keeps are; many = length_changed tasks n change }
 
 same_kept : (exited : ℕ → Bool) (tasks : List TaskRow) → AreNumbered exited 0 tasks → AreKept exited tasks tasks
 same_kept exited tasks are = record { numbered = are; many = refl }
 
-signalled_kept : (exited : ℕ → Bool) (tasks : List TaskRow) (n : Option ℕ) (sig : ℕ) → AreNumbered exited 0 tasks → AreKept exited tasks (signalled tasks n sig)
-signalled_kept exited tasks None sig are = same_kept exited tasks are
-signalled_kept exited tasks (Some n) sig are = changed_kept exited tasks n _ (λ r. (refl, refl)) are
+change_kept : (exited : ℕ → Bool) (tasks : List TaskRow) (task : ℕ) (change : TaskEffect) → BeginsNone change → EndsNone change
+    → AreNumbered exited 0 tasks → AreKept exited tasks (tasks_after tasks task change)
+change_kept exited tasks task NoChange begins ends are = same_kept exited tasks are
+change_kept exited tasks task (NewCreds creds) begins ends are = changed_kept exited tasks task _ (λ r. (refl, refl)) are
+change_kept exited tasks task LifeEnds begins ends are = absurd ends
+change_kept exited tasks task (NewChild pid) begins ends are = absurd begins
+change_kept exited tasks task (NewSignal n sig) begins ends are = changed_kept exited tasks n _ (λ r. (refl, refl)) are
+change_kept exited tasks task SignalTaken begins ends are = changed_kept exited tasks task _ (λ r. (refl, refl)) are
 
 effect_kept : (exited : ℕ → Bool) (w : World) (version : Ruling) (task : ℕ) (call : Call) → IsQuiet call → AreNumbered exited 0 w.tasks
     → AreKept exited w.tasks (effect w version task call).world.tasks
 effect_kept exited w version task (Call.Task (TaskCall.Fork pid)) quiet are = absurd quiet
 effect_kept exited w version task (Call.Task TaskCall.Exit) quiet are = absurd quiet
-effect_kept exited w version task (Call.Task (TaskCall.Relabel l)) quiet are = changed_kept exited w.tasks task _ (λ r. (refl, refl)) are
-effect_kept exited w version task (Call.Task (TaskCall.DropCap cap)) quiet are = changed_kept exited w.tasks task _ (λ r. (refl, refl)) are
-effect_kept exited w version task (Call.Task (TaskCall.SelfRules rules)) quiet are = changed_kept exited w.tasks task _ (λ r. (refl, refl)) are
-effect_kept exited w version task (Call.Task (TaskCall.Relabels list)) quiet are = changed_kept exited w.tasks task _ (λ r. (refl, refl)) are
-effect_kept exited w version task (Call.Task (TaskCall.Kill pid sig)) quiet are = signalled_kept exited w.tasks (live_task w.tasks pid) sig are
-effect_kept exited w version task (Call.Task TaskCall.Take) quiet are = changed_kept exited w.tasks task _ (λ r. (refl, refl)) are
-effect_kept exited w version task (Call.Task (TaskCall.TraceRead pid)) quiet are = same_kept exited w.tasks are
-effect_kept exited w version task (Call.Task (TaskCall.TraceAttach pid)) quiet are = same_kept exited w.tasks are
-effect_kept exited w version task (Call.Tree (TreeCall.Create path)) quiet are = same_kept exited w.tasks are
-effect_kept exited w version task (Call.Tree (TreeCall.Unlink path)) quiet are = same_kept exited w.tasks are
-effect_kept exited w version task (Call.Tree (TreeCall.ListDir path at)) quiet are = same_kept exited w.tasks are
+effect_kept exited w version task (Call.Task call) quiet are =
+    change_kept exited w.tasks task (task_left w version task call).change
+    (begins_none w version task call (λ pid e. cc)) (ends_none w version task call (λ e. cc)) are
+effect_kept exited w version task (Call.Tree call) quiet are = same_kept exited w.tasks are
 
 stepped_kept : (exited : ℕ → Bool) (w : World) (e : Effect) (checks : List Verdict) (stop : Option Reply) → AreNumbered exited 0 w.tasks
     → AreKept exited w.tasks e.world.tasks → AreKept exited w.tasks (stepped w e checks stop).world.tasks

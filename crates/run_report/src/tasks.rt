@@ -1,11 +1,11 @@
 ghost use Rattle.std.specs.Prelude.{◌≡◌, ◌==◌, position, nat_lt, IfOk, OnOk};
 ghost use Rattle.std.specs.List.{list_any, position_or_len};
-ghost use Rattle.record_spec.specs.Tasks.{forked as pid_forked, child_number as number_in_reply, child_of as task_made, with_task, with_child, run_tasks as tasks_of_run};
+ghost use Rattle.record_spec.specs.Tasks.{forked as pid_forked, numbered_child as numbered_child_of, with_task, with_child, run_tasks as tasks_of_run};
 
 use record_spec::NumberedTask;
 use smack_base::Pid;
 use std::alloc::{AllocError, Global};
-use world_spec::{Call, Entry, Reply, TaskCall};
+use world_spec::{Call, Entry, TaskCall};
 
 /// The pid that a call forks.
 fn forked(call: &Call) -> Option<Pid>
@@ -17,21 +17,11 @@ fn forked(call: &Call) -> Option<Pid>
     }
 }
 
-/// The number of the task that a call made.
-fn child_number(reply: &Reply) -> Option<u16>
-    ensures { result ≡ number_in_reply reply.now }
-{
-    match reply {
-        Reply::Child(number) => Some(*number),
-        _ => None,
-    }
-}
-
 /// The task that an entry made, where it made one.
-fn child_of(entry: &Entry) -> Option<NumberedTask>
-    ensures { result ≡ task_made entry.now }
+fn numbered_child(entry: &Entry) -> Option<NumberedTask>
+    ensures { result ≡ numbered_child_of entry.now }
 {
-    match (forked(&entry.call), child_number(&entry.reply)) {
+    match (forked(&entry.call), entry.reply.child()) {
         (Some(pid), Some(number)) => Some(NumberedTask { number, pid }),
         _ => None,
     }
@@ -64,9 +54,9 @@ fn add_task(tasks: &mut Vec<NumberedTask>, task: NumberedTask) -> Result<(), All
 }
 
 fn add_child(tasks: &mut Vec<NumberedTask>, entry: &Entry) -> Result<(), AllocError>
-    ensures { OnOk result (tasks.new.items ≡ with_child tasks.old.items (task_made entry.now)) }
+    ensures { OnOk result (tasks.new.items ≡ with_child tasks.old.items (numbered_child_of entry.now)) }
 {
-    match child_of(entry) {
+    match numbered_child(entry) {
         Some(task) => add_task(tasks, task),
         None => Ok(()),
     }

@@ -20,7 +20,7 @@ use Rattle.script_spec.specs.Lines.{ScriptLine, word_in, verb_in, table_of}
 use Rattle.script_spec.specs.Tasks.{task_names}
 use Rattle.replay_spec.specs.Replays.{modes_in}
 use Rattle.legal_spec.specs.Lines.{IsCallOfLine}
-use Rattle.smack_kernel.specs.Histories.{child_of}
+use Rattle.world_spec.specs.Replies.{child_of}
 use Rattle.smack_kernel.specs.Tasks.{TaskValue, Stays, Calls, Starts, Adopts, Answers, IsSound, LoadsOnce, most_calls}
 use Rattle.smack_kernel.specs.Answers.{is_fork, IsCalled, IsTrailFull, IsSeqFull, IsWritten, IsAsked, IsForked as IsKernelForked}
 use Rattle.smack_kernel.specs.declared.turns.Entered.{Entered}

@@ -7,7 +7,7 @@ use Rattle.world_spec.specs.declared.Reply.TheVariants as Reply
 use Rattle.script_spec.specs.Lines.{ScriptLine}
 use Rattle.record_spec.specs.declared.AskedLine.{AskedLine}
 use Rattle.record_spec.specs.declared.AskedWhat.TheVariants as AskedWhat
-use Rattle.smack_kernel.specs.Histories.{child_of}
+use Rattle.world_spec.specs.Replies.{child_of}
 use Rattle.smack_kernel.specs.Tasks.{TaskValue, Stays, Calls, Starts, LoadsOnce}
 use Rattle.smack_kernel.specs.declared.turns.Entered.{Entered}
 use Rattle.task_runs.specs.Scripts.{Scripted}

@@ -26,7 +26,8 @@ use Rattle.live_table.specs.Machines.{made, last_version, entries_by}
 use Rattle.live_table.specs.Plays.{MayGive, given, notified, knowing, loads_of, notice_of, enrolled}
 use Rattle.live_table.specs.Seats.{SeatValue, Turns, Hears as HearsView}
 use Rattle.live_table.proofs.Lists.{begins_self, begins_length}
-use Rattle.smack_kernel.specs.Histories.{world_means, child_of}
+use Rattle.world_spec.specs.Replies.{child_of}
+use Rattle.smack_kernel.specs.Histories.{world_means}
 use Rattle.smack_kernel.specs.Indexes.{StandsAt}
 use Rattle.smack_kernel.specs.Growth.{entry_of}
 use Rattle.smack_kernel.specs.declared.turns.Entered.{Entered}

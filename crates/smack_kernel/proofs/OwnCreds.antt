@@ -16,14 +16,13 @@ use Rattle.world_spec.specs.declared.Call.{Call}
 use Rattle.world_spec.specs.declared.Call.TheVariants as Call
 use Rattle.world_spec.specs.declared.TaskCall.TheVariants as TaskCall
 use Rattle.world_spec.specs.declared.TreeCall.{TreeCall}
-use Rattle.world_spec.specs.declared.TreeCall.TheVariants as TreeCall
 use Rattle.world_spec.specs.declared.Part.TheVariants as Part
 use Rattle.world_spec.specs.declared.Why.TheVariants as Why
 use Rattle.world_spec.specs.declared.Reply.{Reply}
 use Rattle.world_spec.specs.declared.Reply.TheVariants as Reply
 use Rattle.world_spec.specs.Worlds.{World, TaskRow, creds_in, creds_or_first, creds_of, changed_at, live_task, is_live, task_begun}
 use Rattle.world_spec.specs.Questions.{asks}
-use Rattle.world_spec.specs.Steps.{Effect, went, verdict_of, relabelled, signalled, effect, stepped}
+use Rattle.world_spec.specs.Steps.{Effect, went, verdict_of, relabelled, signalled, tasks_after, effect, stepped}
 use Rattle.smack_kernel.specs.Creds.{creds_left, ArePrepared}
 use Rattle.smack_kernel.proofs.Worlds.{IsStop, Stops, went_stops, through}
 
@@ -53,9 +52,9 @@ change_keeps (r ∷ rs) zero (suc k) f keeps = refl
 change_keeps (r ∷ rs) (suc n) zero f keeps = refl
 change_keeps (r ∷ rs) (suc n) (suc k) f keeps = change_keeps rs n k f keeps
 
-signal_keeps : (rows : List TaskRow) (target : Option ℕ) (sig k : ℕ) → creds_in (signalled rows target sig) k ≡ creds_in rows k
-signal_keeps rows None sig k = refl
-signal_keeps rows (Some n) sig k = change_keeps rows n k _ (λ r. refl)
+signal_keeps : (rows : List TaskRow) (target : Option ℕ) (sig task k : ℕ) → creds_in (tasks_after rows task (signalled target sig)) k ≡ creds_in rows k
+signal_keeps rows None sig task k = refl
+signal_keeps rows (Some n) sig task k = change_keeps rows n k _ (λ r. refl)
 
 pub child_keeps : (rows : List TaskRow) (more : TaskRow) (k : ℕ) → k < length rows
     → creds_in (rows ++ more ∷ []) k ≡ creds_in rows k
@@ -159,7 +158,7 @@ module _ (c : Creds) (version : Ruling) where
 
   pub kill_prepared : (pid : Pid) (sig : ℕ) → ArePrepared c version (Call.Task (TaskCall.Kill pid sig)) None
   kill_prepared pid sig = goes_through c version (Call.Task (TaskCall.Kill pid sig)) None
-      (λ w task low is _. ap creds_or_first (signal_keeps w.tasks (live_task w.tasks pid) sig task) ∙ is)
+      (λ w task low is _. ap creds_or_first (signal_keeps w.tasks (live_task w.tasks pid) sig task task) ∙ is)
 
   pub take_prepared : ArePrepared c version (Call.Task TaskCall.Take) None
   take_prepared = goes_through c version (Call.Task TaskCall.Take) None
@@ -172,9 +171,7 @@ module _ (c : Creds) (version : Ruling) where
   attach_prepared pid = goes_through c version (Call.Task (TaskCall.TraceAttach pid)) None (λ w task low is _. is)
 
   pub tree_prepared : (call : TreeCall) → ArePrepared c version (Call.Tree call) None
-  tree_prepared (TreeCall.Create path) = goes_through c version (Call.Tree (TreeCall.Create path)) None (λ w task low is _. is)
-  tree_prepared (TreeCall.Unlink path) = goes_through c version (Call.Tree (TreeCall.Unlink path)) None (λ w task low is _. is)
-  tree_prepared (TreeCall.ListDir path at) = goes_through c version (Call.Tree (TreeCall.ListDir path at)) None (λ w task low is _. is)
+  tree_prepared call = goes_through c version (Call.Tree call) None (λ w task low is _. is)
 
 -- what is prepared for every version is so for one
 pub if_prepared : {E : Type 0} (c : Creds) (call : Call) (version : Ruling) (r : Result (Option Creds) E)

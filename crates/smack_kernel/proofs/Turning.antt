@@ -19,7 +19,8 @@ use Rattle.live_table.specs.Machines.{entries_by}
 use Rattle.live_table.specs.Plays.{MayEnter, MayGive, at_turn, given}
 use Rattle.live_table.specs.Seats.{SeatValue, Rests, Turns}
 use Rattle.live_table.proofs.Lists.{begins_self, begins_more, begins_trans, those-append, those_none, those_all}
-use Rattle.smack_kernel.specs.Histories.{world_means, child_of}
+use Rattle.world_spec.specs.Replies.{child_of}
+use Rattle.smack_kernel.specs.Histories.{world_means}
 use Rattle.smack_kernel.specs.Indexes.{StandsAt}
 use Rattle.smack_kernel.specs.Growth.{Grows, Enters, entry_of}
 use Rattle.smack_kernel.specs.declared.turns.Entered.{Entered}

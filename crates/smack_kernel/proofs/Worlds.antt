@@ -10,7 +10,6 @@ use Rattle.rules_spec.specs.Creds.{Creds}
 use Rattle.world_spec.specs.declared.Call.{Call}
 use Rattle.world_spec.specs.declared.Call.TheVariants as Call
 use Rattle.world_spec.specs.declared.TaskCall.TheVariants as TaskCall
-use Rattle.world_spec.specs.declared.TreeCall.TheVariants as TreeCall
 use Rattle.world_spec.specs.declared.Entry.{Entry}
 use Rattle.world_spec.specs.declared.Part.{Part}
 use Rattle.world_spec.specs.declared.Part.TheVariants as Part
@@ -19,28 +18,27 @@ use Rattle.world_spec.specs.declared.Why.{Why}
 use Rattle.world_spec.specs.declared.Why.TheVariants as Why
 use Rattle.world_spec.specs.declared.Reply.{Reply}
 use Rattle.world_spec.specs.declared.Reply.TheVariants as Reply
-use Rattle.world_spec.specs.Worlds.{World, TaskRow, world_first, creds_of, changed_at, live_task, is_live, was_made, task_begun, pending_of, most_tasks}
-use Rattle.world_spec.specs.Signals.{least_signal}
+use Rattle.world_spec.specs.Worlds.{World, TaskRow, world_first, creds_of, is_live, was_made, task_begun, most_tasks}
 use Rattle.world_spec.specs.Questions.{asks}
-use Rattle.world_spec.specs.Steps.{Effect, Went, went, asked, verdict_of, signalled, signal_reply, effect, stepped, step}
-use Rattle.world_spec.specs.Replays.{AreSteps, StandsOver, version_of, step_of, after_entry, replay_of, makes}
+use Rattle.world_spec.specs.Steps.{Effect, Went, went, asked, verdict_of, task_left, tree_left, effect, stepped, step}
+use Rattle.world_spec.specs.Replies.{makes}
+use Rattle.world_spec.specs.Replays.{AreSteps, StandsOver, version_of, step_of, after_entry, replay_of}
+use Rattle.world_replays.proofs.Changes.{begins_none, length_after, answer_childless, change_childless}
 use Rattle.world_replays.proofs.Keeping.{others_keep}
 use Rattle.world_replays.proofs.Standing.{longer_stands}
 use Rattle.live_table.specs.Lists.{Begins}
 use Rattle.live_table.specs.Machines.{made, entries_by, makes as counts}
 use Rattle.live_table.proofs.Lists.{those-append}
-use Rattle.smack_kernel.specs.Histories.{world_means, child_of}
+use Rattle.world_spec.specs.Replies.{child_of}
+use Rattle.smack_kernel.specs.Histories.{world_means}
 use Rattle.smack_kernel.specs.Tasks.{AreSeen}
 use Rattle.smack_kernel.specs.Answers.{is_fork}
 
 -- a reply that ends a call before its effect
 abbrev pub IsStop : Reply → Type 0
-IsStop Reply.Ok = ⊥
-IsStop (Reply.Child n) = ⊥
-IsStop (Reply.Signal sig) = ⊥
-IsStop (Reply.Names count names) = ⊥
 IsStop (Reply.Denied case) = Unit {0}
 IsStop (Reply.Refused why) = Unit {0}
+IsStop reply = ⊥
 
 abbrev pub Stops : Option Reply → Type 0
 Stops None = Unit {0}
@@ -75,18 +73,9 @@ abbrev pub MakesNext : ℕ → Bool → Option ℕ → ℕ → Type 0
 MakesNext n fork None m = m ≡ n
 MakesNext n fork (Some k) m = (k ≡ n) × (m ≡ n + 1) × (n < 64) × (fork ≡ true)
 
-length_changed : (rows : List TaskRow) (n : ℕ) (f : TaskRow → TaskRow) → length (changed_at rows n f) ≡ length rows
-length_changed [] n f = refl
-length_changed (r ∷ rs) zero f = refl
-length_changed (r ∷ rs) (suc n) f = let h = length_changed rs n f in omega arith
-
-length_signalled : (rows : List TaskRow) (target : Option ℕ) (sig : ℕ) → length (signalled rows target sig) ≡ length rows
-length_signalled rows None sig = refl
-length_signalled rows (Some n) sig = length_changed rows n _
-
-signal_makes : (n : ℕ) (fork : Bool) (m : ℕ) (least : Option ℕ) → m ≡ n → MakesNext n fork (child_of (signal_reply least)) m
-signal_makes n fork m None e = e
-signal_makes n fork m (Some sig) e = e
+none_next : (n : ℕ) (fork : Bool) (o : Option ℕ) (m : ℕ) → o ≡ None → m ≡ n → MakesNext n fork o m
+none_next n fork None m none same = same
+none_next n fork (Some k) m none same = cc
 
 few_tasks : (n : ℕ) → nat_le 64 n ≡ false → n < 64
 few_tasks n e = grind (arith, nat_tests)
@@ -103,27 +92,17 @@ effect_makes w version task (Call.Task (TaskCall.Fork pid)) none =
     let c = through (verdict_of w version task) (nat_le most_tasks (length w.tasks)) (Why.TasksFull most_tasks) [] b.1 in
     let l = length-append w.tasks (task_begun pid (creds_of w task) ∷ []) in
     (refl, omega arith, few_tasks (length w.tasks) c.0, refl)
-effect_makes w version task (Call.Task TaskCall.Exit) none = length_changed w.tasks task _
-effect_makes w version task (Call.Task (TaskCall.Relabel l)) none = length_changed w.tasks task _
-effect_makes w version task (Call.Task (TaskCall.DropCap cap)) none = length_changed w.tasks task _
-effect_makes w version task (Call.Task (TaskCall.SelfRules rules)) none = length_changed w.tasks task _
-effect_makes w version task (Call.Task (TaskCall.Relabels labels)) none = length_changed w.tasks task _
-effect_makes w version task (Call.Task (TaskCall.Kill pid sig)) none = length_signalled w.tasks (live_task w.tasks pid) sig
-effect_makes w version task (Call.Task TaskCall.Take) none =
-    signal_makes (length w.tasks) false _ (least_signal (pending_of w task)) (length_changed w.tasks task _)
-effect_makes w version task (Call.Task (TaskCall.TraceRead pid)) none = refl
-effect_makes w version task (Call.Task (TaskCall.TraceAttach pid)) none = refl
-effect_makes w version task (Call.Tree (TreeCall.Create path)) none = refl
-effect_makes w version task (Call.Tree (TreeCall.Unlink path)) none = refl
-effect_makes w version task (Call.Tree (TreeCall.ListDir path at)) none = refl
+effect_makes w version task (Call.Task call) none =
+    let change = (task_left w version task call).change in
+    let begins = begins_none w version task call (λ pid e. cc) in
+    none_next (length w.tasks) false _ _ (change_childless w.tasks change (task_left w version task call).answer begins)
+    (length_after w.tasks task change begins)
+effect_makes w version task (Call.Tree call) none =
+    none_next (length w.tasks) false _ _ (answer_childless (tree_left w version task call).answer) refl
 
 pub stop_child : (reply : Reply) → IsStop reply → child_of reply ≡ None
-stop_child Reply.Ok s = absurd s
 stop_child (Reply.Child n) s = absurd s
-stop_child (Reply.Signal sig) s = absurd s
-stop_child (Reply.Names count names) s = absurd s
-stop_child (Reply.Denied case) s = refl
-stop_child (Reply.Refused why) s = refl
+stop_child reply s = refl
 
 stepped_makes : (w : World) (fork : Bool) (e : Effect) (checks : List Verdict) (stop : Option Reply) → Stops stop
     → (stop ≡ None → MakesNext (length w.tasks) fork (child_of e.reply) (length e.world.tasks))
@@ -157,12 +136,8 @@ next_plain n fork (Some k) m h plain = absurd (let is = h.3 in let e : true ≡ 
 
 unmade : (reply : Reply) (n : ℕ) (fork : Bool) (m k : ℕ) → MakesNext n fork (child_of reply) m → k < n
     → makes k reply ≡ false
-unmade Reply.Ok n fork m k h l = refl
 unmade (Reply.Child x) n fork m k h l = ne_eqb x k (λ e. let is = h.0 in absurd (omega arith))
-unmade (Reply.Signal sig) n fork m k h l = refl
-unmade (Reply.Names count names) n fork m k h l = refl
-unmade (Reply.Denied case) n fork m k h l = refl
-unmade (Reply.Refused why) n fork m k h l = refl
+unmade reply n fork m k h l = refl
 
 -- a task that a step finds stays
 pub step_alive : (w : World) (version : Ruling) (task : ℕ) (call : Call) (k : ℕ) → k < length w.tasks

@@ -26,7 +26,8 @@ use Rattle.live_table.specs.Core.{row_count}
 use Rattle.live_table.specs.Machines.{LegalFrom, last_version}
 use Rattle.world_spec.specs.Replays.{AreSteps}
 use Rattle.smack_world.specs.Stepping.{most_entries}
-use Rattle.smack_kernel.specs.Histories.{world_means, child_of}
+use Rattle.world_spec.specs.Replies.{child_of}
+use Rattle.smack_kernel.specs.Histories.{world_means}
 use Rattle.smack_kernel.specs.Growth.{Publishes, batch_of}
 use Rattle.smack_kernel.specs.Tasks.{TaskValue, Does, Stays, Answers, Calls, Starts, most_calls}
 use Rattle.smack_kernel.specs.declared.kernel.Asked.{Asked}

@@ -13,7 +13,8 @@ use Rattle.live_table.specs.Core.{opening_view}
 use Rattle.live_table.specs.Seats.{Rests, SameCounts}
 use Rattle.smack_kernel.specs.declared.turns.Turned.{Turned}
 use Rattle.smack_kernel.specs.declared.turns.Turned.TheVariants as Turned
-use Rattle.smack_kernel.specs.Histories.{world_means, child_of}
+use Rattle.world_spec.specs.Replies.{child_of}
+use Rattle.smack_kernel.specs.Histories.{world_means}
 use Rattle.smack_kernel.specs.Tasks.{TaskValue, Starts}
 use Rattle.smack_kernel.specs.Turns.{IsTurned}
 

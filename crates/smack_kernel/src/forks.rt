@@ -7,8 +7,9 @@ ghost use Rattle.world_spec.specs.Replays.{StandsOver};
 ghost use Rattle.live_table.specs.Batches.{rows_of};
 ghost use Rattle.live_table.specs.Lists.{Begins};
 ghost use Rattle.live_table.specs.Machines.{made as tasks_made};
+ghost use Rattle.world_spec.specs.Replies.{child_of};
 ghost use Rattle.live_table.specs.Seats.{SameCounts, with_loads};
-ghost use Rattle.smack_kernel.specs.Histories.{world_means, child_of};
+ghost use Rattle.smack_kernel.specs.Histories.{world_means};
 ghost use Rattle.smack_kernel.specs.Indexes.{StandsAt};
 ghost use Rattle.smack_kernel.specs.Tasks.{IsTask, Stays, task_of};
 ghost use Rattle.smack_kernel.specs.Turns.{IsMade};
@@ -23,7 +24,7 @@ use smack_base::{Duplicate, Pid};
 use std::alloc::{AllocError, Global};
 use std::sync::Wait;
 use task_creds::Cred;
-use world_spec::{Call, Reply, TaskCall};
+use world_spec::{Call, TaskCall};
 
 /// What a child has of its parent.
 #[derive(Drop)]
@@ -48,25 +49,12 @@ fn inherit(index: &Index, creds: &Cred) -> Result<Heritage, AllocError>
     })
 }
 
-fn is_child(reply: &Reply) -> bool
-    ensures { result ≡ is_some (child_of reply.now) }
-{
-    match reply {
-        Reply::Child(_) => true,
-        Reply::Ok => false,
-        Reply::Signal(_) => false,
-        Reply::Names { count: _, names: _ } => false,
-        Reply::Denied(_) => false,
-        Reply::Refused(_) => false,
-    }
-}
-
 /// Whether a call made a task.
 fn makes_task(turned: &Turned) -> bool
     ensures { result ≡ is_some (task_made turned.now) }
 {
     match turned {
-        Turned::Entry(entered) => is_child(&entered.reply),
+        Turned::Entry(entered) => entered.reply.child().is_some(),
         Turned::TrailFull(_) => false,
     }
 }

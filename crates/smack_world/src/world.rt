@@ -14,7 +14,7 @@ use std::marker::Model;
 use task_creds::Cred;
 use task_table::Tasks;
 use world_spec::{Call, Entry, Reply, Trail};
-use world_state::State;
+use world_state::{RootFiles, State};
 
 /// The most entries of a trail.
 const MOST_ENTRIES: u32 = 131_072;
@@ -27,8 +27,7 @@ pub struct World {
 }
 
 impl Model for World {
-    ghost use Rattle.std.specs.Prelude.{◌<◌, ◌≤◌, length};
-    ghost use Rattle.world_spec.specs.Worlds.{most_nodes};
+    ghost use Rattle.std.specs.Prelude.{◌≤◌, length};
     ghost use Rattle.world_state.specs.Seen.{world_seen};
     ghost use Rattle.smack_world.specs.Stepping.{WorldValue, most_entries};
 
@@ -36,7 +35,7 @@ impl Model for World {
 
     ghost view = { λ w. record { world = world_seen w.state; trail = w.trail.items } };
 
-    ghost invariant = { λ w. (length w.state.files.items < most_nodes) × (length w.trail.items ≤ most_entries) };
+    ghost invariant = { λ w. length w.trail.items ≤ most_entries };
 }
 
 /// What a step came to.
@@ -62,7 +61,7 @@ impl World {
         Ok(World {
             state: State {
                 tasks: Tasks::first(alloc)?,
-                files: Vec::new(alloc),
+                files: RootFiles::new(alloc),
             },
             trail: Vec::new(alloc),
         })

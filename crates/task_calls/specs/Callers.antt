@@ -4,7 +4,7 @@ use Rattle.world_spec.specs.declared.Part.{Part}
 use Rattle.world_spec.specs.declared.TaskCall.{TaskCall}
 use Rattle.world_spec.specs.Questions.{task_asks}
 use Rattle.world_state.specs.Seen.{world_seen}
-use Rattle.task_calls.specs.declared.questions.Caller.{Caller}
+use Rattle.world_state.specs.declared.caller.Caller.{Caller}
 
 -- what a call of the caller is refused for and what it asks
 abbrev pub asks_of : Caller → TaskCall → List Part

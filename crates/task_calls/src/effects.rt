@@ -1,11 +1,11 @@
-ghost use Rattle.std.specs.Prelude.{◌≡◌, ◌<◌, ◌≤◌, true, length, OnOk, OnErr};
+ghost use Rattle.std.specs.Prelude.{◌≡◌, ℕ, ◌<◌, ◌≤◌, true, length, OnOk, OnErr};
 ghost use Rattle.rule_fold.specs.Index.{ruling_of};
 ghost use Rattle.rules_spec.specs.Rulings.{Ruling};
 ghost use Rattle.rules_spec.specs.Creds.{with_self_rules, most_self_rules, most_relabels};
 ghost use Rattle.world_spec.specs.Signals.{is_signal as is_signal_number, least_signal};
 ghost use Rattle.world_spec.specs.Worlds.{creds_in, creds_or_first, creds_of, live_task, pending_of, with_creds};
 ghost use Rattle.world_spec.specs.Questions.{task_asks};
-ghost use Rattle.world_spec.specs.Steps.{relabelled, signal_reply, signalled, task_effect as task_effect_of};
+ghost use Rattle.world_spec.specs.Steps.{relabelled, signal_answer, signalled, tasks_after, task_left, task_reply as task_reply_of};
 ghost use Rattle.world_state.specs.Seen.{world_seen};
 ghost use Rattle.world_state.specs.Judging.{Passes};
 
@@ -15,7 +15,7 @@ use smack_decide::effective;
 use std::alloc::AllocError;
 use task_creds::Cred;
 use task_table::Tasks;
-use world_spec::{Reply, TaskCall};
+use world_spec::{Answer, Reply, TaskCall};
 use world_state::State;
 
 /// The least signal that waits for a task.
@@ -28,31 +28,25 @@ pub(crate) fn least_of(state: &State, task: u16) -> Option<u8>
     }
 }
 
-/// The reply that tells the least signal that waits for a task.
-fn take_reply(state: &State, task: u16) -> Reply
-    ensures { result ≡ signal_reply (least_signal (pending_of (world_seen state.now) task)) }
+/// The answer that tells the least signal that waits for a task.
+fn take_answer(state: &State, task: u16) -> Answer
+    ensures { result ≡ signal_answer (least_signal (pending_of (world_seen state.now) task)) }
 {
     match least_of(state, task) {
-        Some(sig) => Reply::Signal(sig),
-        None => Reply::Ok,
+        Some(sig) => Answer::Signal(sig),
+        None => Answer::Ok,
     }
 }
 
 /// The reply to a call on tasks that goes through.
 pub fn task_reply(state: &State, task: u16, call: &TaskCall) -> Reply
-    ensures { (version : Ruling) → result ≡ (task_effect_of (world_seen state.now) version task call.now).reply }
+    ensures { (version : Ruling) → let left = task_left (world_seen state.now) version task call.now in
+        result ≡ task_reply_of state.now.tasks left.change left.answer }
 {
     match call {
         TaskCall::Fork { pid: _ } => Reply::Child(state.tasks.made()),
-        TaskCall::Exit => Reply::Ok,
-        TaskCall::Relabel { l: _ } => Reply::Ok,
-        TaskCall::DropCap { cap: _ } => Reply::Ok,
-        TaskCall::SelfRules { rules: _ } => Reply::Ok,
-        TaskCall::Relabels { labels: _ } => Reply::Ok,
-        TaskCall::Kill { pid: _, sig: _ } => Reply::Ok,
-        TaskCall::Take => take_reply(state, task),
-        TaskCall::TraceRead { pid: _ } => Reply::Ok,
-        TaskCall::TraceAttach { pid: _ } => Reply::Ok,
+        TaskCall::Take => take_answer(state, task).reply(),
+        _ => Answer::Ok.reply(),
     }
 }
 
@@ -95,7 +89,7 @@ fn replace_relabels(tasks: &mut Tasks, task: u16, labels: &Ids) -> Result<(), Al
 /// Sends a signal to the live task of a pid.
 fn signal(tasks: &mut Tasks, pid: Pid, sig: u8)
     requires { is_signal_number sig ≡ true }
-    ensures { tasks.new ≡ signalled tasks.old (live_task tasks.old pid) sig }
+    ensures { (task : ℕ) → tasks.new ≡ tasks_after tasks.old task (signalled (live_task tasks.old pid) sig) }
 {
     if let Some(task) = tasks.of_pid(pid) {
         tasks.pending_mut(task).put(sig);
@@ -112,9 +106,10 @@ pub fn task_effect(
 ) -> Result<(), AllocError>
     requires made { task < length state.old.tasks }
     requires passes { Passes (task_asks (world_seen state.old) (ruling_of rules.now) task (creds_of (world_seen state.old) task) call.now) }
-    ensures ok { OnOk result (world_seen state.new ≡ (task_effect_of (world_seen state.old) (ruling_of rules.now) task call.now).world) }
+    ensures ok { OnOk result (world_seen state.new ≡ record (world_seen state.old) {
+      tasks = tasks_after state.old.tasks task (task_left (world_seen state.old) (ruling_of rules.now) task call.now).change;
+    }) }
     ensures err { OnErr result (world_seen state.new ≡ world_seen state.old) }
-    ensures files { state.new.files ≡ state.old.files }
 {
     match call {
         TaskCall::Fork { pid } => {

@@ -1,6 +1,6 @@
 ghost use Rattle.std.specs.Prelude.{◌≡◌, None, is_none, IfOk};
 ghost use Rattle.rule_fold.specs.Index.{ruling_of};
-ghost use Rattle.world_spec.specs.Questions.{may_relabel as may_relabel_by, label_of_task, task_asks};
+ghost use Rattle.world_spec.specs.Questions.{may_relabel as may_relabel_by, label_of_task};
 ghost use Rattle.world_spec.specs.Steps.{went, verdict_by_creds};
 ghost use Rattle.world_state.specs.Seen.{world_seen};
 ghost use Rattle.world_state.specs.Judging.{went_in, Passes};
@@ -15,7 +15,7 @@ use smack_decide::effective;
 use std::alloc::{AllocError, Global};
 use task_creds::Cred;
 use world_spec::{Part, Question, TaskCall, Why};
-use world_state::{Judgement, State, asks_for, judge_parts};
+use world_state::{Caller, Judgement, State, asks_for, judge_parts};
 
 /// The most tasks that are ever made, the first included.
 const MOST_TASKS: u32 = 64;
@@ -25,15 +25,6 @@ const MOST_SELF_RULES: u32 = 256;
 
 /// The most labels of a relabel list.
 const MOST_RELABELS: u32 = 256;
-
-/// Who calls, and what the call looks at.
-#[derive(Clone, Copy)]
-struct Caller<'a> {
-    state: &'a State,
-    rules: &'a RuleIndex,
-    task: u16,
-    cred: &'a Cred,
-}
 
 /// The label of a task; that of the floor where there is none.
 fn label_of(state: &State, task: Option<u16>) -> LabelId
@@ -160,45 +151,41 @@ fn trace_attach_parts(caller: &Caller<'_>, pid: Pid) -> [Part; 2]
     ]
 }
 
-/// What a call on tasks comes to before its effect, where the caller has these credentials.
+/// What a call on tasks comes to before its effect.
 pub fn task_judgement(
     alloc: Global,
-    state: &State,
-    rules: &RuleIndex,
-    task: u16,
-    cred: &Cred,
+    caller: &Caller<'_>,
     call: &TaskCall,
 ) -> Result<Judgement, AllocError>
-    ensures went { IfOk result (λ j. went_in j ≡ went (verdict_by_creds cred.now (ruling_of rules.now))
-        (task_asks (world_seen state.now) (ruling_of rules.now) task cred.now call.now)) }
-    ensures passes { IfOk result (λ j. j.stop ≡ None → Passes (task_asks (world_seen state.now) (ruling_of rules.now) task cred.now call.now)) }
+    ensures went { IfOk result (λ j. went_in j ≡ went (verdict_by_creds caller.now.cred.now (ruling_of caller.now.rules.now)) (asks_of caller.now call.now)) }
+    ensures passes { IfOk result (λ j. j.stop ≡ None → Passes (asks_of caller.now call.now)) }
 {
-    let caller = Caller {
-        state,
+    let Caller {
+        state: _,
         rules,
-        task,
+        task: _,
         cred,
-    };
+    } = *caller;
     match call {
-        TaskCall::Fork { pid } => judge_parts(alloc, cred, rules, &fork_parts(&caller, *pid)),
+        TaskCall::Fork { pid } => judge_parts(alloc, cred, rules, &fork_parts(caller, *pid)),
         TaskCall::Exit => judge_parts(alloc, cred, rules, &[]),
-        TaskCall::Relabel { l } => judge_parts(alloc, cred, rules, &relabel_parts(&caller, *l)),
+        TaskCall::Relabel { l } => judge_parts(alloc, cred, rules, &relabel_parts(caller, *l)),
         TaskCall::DropCap { cap: _ } => judge_parts(alloc, cred, rules, &[]),
         TaskCall::SelfRules { rules: more } => {
-            judge_parts(alloc, cred, rules, &self_rules_parts(&caller, more)?)
+            judge_parts(alloc, cred, rules, &self_rules_parts(caller, more)?)
         }
         TaskCall::Relabels { labels } => {
-            judge_parts(alloc, cred, rules, &relabels_parts(&caller, labels))
+            judge_parts(alloc, cred, rules, &relabels_parts(caller, labels))
         }
         TaskCall::Kill { pid, sig } => {
-            judge_parts(alloc, cred, rules, &kill_parts(&caller, *pid, *sig))
+            judge_parts(alloc, cred, rules, &kill_parts(caller, *pid, *sig))
         }
-        TaskCall::Take => judge_parts(alloc, cred, rules, &take_parts(&caller)),
+        TaskCall::Take => judge_parts(alloc, cred, rules, &take_parts(caller)),
         TaskCall::TraceRead { pid } => {
-            judge_parts(alloc, cred, rules, &trace_read_parts(&caller, *pid))
+            judge_parts(alloc, cred, rules, &trace_read_parts(caller, *pid))
         }
         TaskCall::TraceAttach { pid } => {
-            judge_parts(alloc, cred, rules, &trace_attach_parts(&caller, *pid))
+            judge_parts(alloc, cred, rules, &trace_attach_parts(caller, *pid))
         }
     }
 }

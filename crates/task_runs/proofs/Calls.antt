@@ -25,7 +25,7 @@ use Rattle.smack_kernel.specs.Answers.{Wrote, is_fork}
 use Rattle.smack_kernel.proofs.Worlds.{MakesNext, step_makes}
 use Rattle.world_spec.specs.Steps.{step}
 use Rattle.smack_kernel.specs.Growth.{batch_of, entry_of}
-use Rattle.smack_kernel.specs.Histories.{child_of}
+use Rattle.world_spec.specs.Replies.{child_of}
 use Rattle.smack_kernel.specs.declared.turns.Entered.{Entered}
 use Rattle.task_runs.specs.Scripts.{Scripted}
 use Rattle.task_runs.specs.Deeds.{Deed, entered, batched, answered, entries_in, batches_in, Sees, creds_after, IsTrueAnswer, IsAt, Fits, IsNoWait, IsPlain, by_version, by_place, IsSeen}

@@ -8,7 +8,7 @@ use Rattle.script_spec.specs.Lines.{ScriptLine}
 use Rattle.smack_world.specs.Stepping.{most_entries}
 use Rattle.live_table.specs.Lists.{Begins, Has, here, there}
 use Rattle.live_table.proofs.Lists.{has_left, has_right, begins_length, begins_trans}
-use Rattle.smack_kernel.specs.Histories.{child_of}
+use Rattle.world_spec.specs.Replies.{child_of}
 use Rattle.smack_kernel.specs.Tasks.{TaskValue, Stays, Calls, Starts, Adopts, next_entry}
 use Rattle.smack_kernel.specs.declared.turns.Entered.{Entered}
 use Rattle.task_runs.specs.Scripts.{Scripted, lines_by}

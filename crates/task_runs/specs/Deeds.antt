@@ -18,7 +18,8 @@ use Rattle.legal_spec.specs.Calls.{Stands}
 use Rattle.legal_spec.specs.Legal.{rows_of}
 use Rattle.legal_spec.specs.Lines.{IsBatchOfLine, IsCallOfLine, IsAskedOfLine}
 use Rattle.smack_kernel.specs.Answers.{is_fork}
-use Rattle.smack_kernel.specs.Histories.{world_means, child_of}
+use Rattle.world_spec.specs.Replies.{child_of}
+use Rattle.smack_kernel.specs.Histories.{world_means}
 use Rattle.live_table.specs.Machines.{entries_by}
 use Rattle.task_runs.specs.Scripts.{Scripted}
 

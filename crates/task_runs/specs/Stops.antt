@@ -7,7 +7,7 @@ use Rattle.script_spec.specs.Lines.{ScriptLine}
 use Rattle.legal_spec.specs.Calls.{IsForkOf}
 use Rattle.smack_world.specs.Stepping.{most_entries}
 use Rattle.live_table.specs.Lists.{Has}
-use Rattle.smack_kernel.specs.Histories.{child_of}
+use Rattle.world_spec.specs.Replies.{child_of}
 use Rattle.smack_kernel.specs.Tasks.{TaskValue, most_calls}
 use Rattle.task_runs.specs.Scripts.{Scripted, lines_by}
 use Rattle.task_runs.specs.Deeds.{Deed, Made, FitsTo}

@@ -1,19 +1,17 @@
-ghost use Rattle.std.specs.Prelude.{◌≡◌, ◌++◌, ◌<◌, is_none, length, None, IfOk, OnOk};
+ghost use Rattle.std.specs.Prelude.{◌≡◌, ◌++◌, is_none, None, IfOk, OnOk};
 ghost use Rattle.rule_fold.specs.Index.{ruling_of};
-ghost use Rattle.world_spec.specs.Worlds.{most_nodes, label_of as label_of_name};
-ghost use Rattle.world_spec.specs.Questions.{walk_to_last, walk, first_name as first_of, node_label as node_label_of, tree_asks};
+ghost use Rattle.world_spec.specs.Worlds.{label_of as label_of_name};
+ghost use Rattle.world_spec.specs.Questions.{walk_to_last, walk, first_name as first_of, node_label as node_label_of};
 ghost use Rattle.world_spec.specs.Steps.{went, verdict_by_creds};
 ghost use Rattle.world_state.specs.Seen.{world_seen};
 ghost use Rattle.world_state.specs.Judging.{went_in, Passes};
+ghost use Rattle.tree_calls.specs.Callers.{asks_of};
 
-use crate::files::label_of;
-use rule_fold::RuleIndex;
 use rules_spec::{EXECUTE, READ, READ_WRITE};
 use smack_base::{Bytes, LabelId, Path};
 use std::alloc::{AllocError, Global};
-use task_creds::Cred;
 use world_spec::{Part, TreeCall, Why};
-use world_state::{Judgement, ROOT, State, asks_for, judge_parts};
+use world_state::{Caller, Judgement, ROOT, State, asks_for, judge_parts};
 
 /// The most nodes of the tree, the root included.
 const MOST_NODES: u32 = 65_536;
@@ -34,7 +32,7 @@ fn node_label(state: &State, names: &[Bytes]) -> LabelId
 {
     match names {
         [] => ROOT,
-        [name, ..] => match label_of(&state.files, name.items()) {
+        [name, ..] => match state.files.label_of(name.items()) {
             Some(l) => l,
             None => LabelId::FLOOR,
         },
@@ -42,9 +40,9 @@ fn node_label(state: &State, names: &[Bytes]) -> LabelId
 }
 
 fn is_missing(state: &State, name: &[u8]) -> bool
-    ensures { result ≡ is_none (label_of_name state.now.files.items name.now) }
+    ensures { result ≡ is_none (label_of_name state.now.files name.now) }
 {
-    label_of(&state.files, name).is_none()
+    state.files.label_of(name).is_none()
 }
 
 /// Adds the walk to the directory that has the last name of a path.
@@ -85,9 +83,8 @@ fn put_walk(parts: &mut Vec<Part>, state: &State, names: &[Bytes]) -> Result<(),
     }
 }
 
-fn create_parts(alloc: Global, state: &State, path: &Path) -> Result<Vec<Part>, AllocError>
-    requires { length state.now.files.items < most_nodes }
-    ensures { IfOk result (λ parts. parts.items ≡ tree_asks (world_seen state.now) (TreeCall.Create path.now)) }
+fn create_parts(alloc: Global, caller: &Caller<'_>, path: &Path) -> Result<Vec<Part>, AllocError>
+    ensures { IfOk result (λ parts. parts.items ≡ asks_of caller.now (TreeCall.Create path.now)) }
 {
     let names = path.names();
     let mut parts = Vec::from_slice(
@@ -97,23 +94,23 @@ fn create_parts(alloc: Global, state: &State, path: &Path) -> Result<Vec<Part>, 
             why: Why::IsRoot,
         }],
     )?;
-    put_walk_to_last(&mut parts, state, names)?;
+    put_walk_to_last(&mut parts, caller.state, names)?;
     parts.extend_from_slice(&[
         asks_for(READ_WRITE, ROOT),
         Part::Refuses {
-            holds: !is_missing(state, first_name(names)),
+            holds: !is_missing(caller.state, first_name(names)),
             why: Why::Exists,
         },
         Part::Refuses {
-            holds: state.files.len() + 1 >= MOST_NODES as usize,
+            holds: caller.state.files.len() + 1 >= MOST_NODES,
             why: Why::TreeFull { limit: MOST_NODES },
         },
     ])?;
     Ok(parts)
 }
 
-fn unlink_parts(alloc: Global, state: &State, path: &Path) -> Result<Vec<Part>, AllocError>
-    ensures { IfOk result (λ parts. parts.items ≡ tree_asks (world_seen state.now) (TreeCall.Unlink path.now)) }
+fn unlink_parts(alloc: Global, caller: &Caller<'_>, path: &Path) -> Result<Vec<Part>, AllocError>
+    ensures { IfOk result (λ parts. parts.items ≡ asks_of caller.now (TreeCall.Unlink path.now)) }
 {
     let names = path.names();
     let mut parts = Vec::from_slice(
@@ -123,22 +120,22 @@ fn unlink_parts(alloc: Global, state: &State, path: &Path) -> Result<Vec<Part>, 
             why: Why::IsRoot,
         }],
     )?;
-    put_walk(&mut parts, state, names)?;
+    put_walk(&mut parts, caller.state, names)?;
     parts.extend_from_slice(&[
         asks_for(READ_WRITE, ROOT),
-        asks_for(READ_WRITE, node_label(state, names)),
+        asks_for(READ_WRITE, node_label(caller.state, names)),
     ])?;
     Ok(parts)
 }
 
-fn list_parts(alloc: Global, state: &State, path: &Path) -> Result<Vec<Part>, AllocError>
-    ensures { IfOk result (λ parts. parts.items ≡ tree_asks (world_seen state.now) (TreeCall.ListDir path.now 0)) }
+fn list_parts(alloc: Global, caller: &Caller<'_>, path: &Path) -> Result<Vec<Part>, AllocError>
+    ensures { IfOk result (λ parts. parts.items ≡ asks_of caller.now (TreeCall.ListDir path.now 0)) }
 {
     let names = path.names();
     let mut parts = Vec::new(alloc);
-    put_walk(&mut parts, state, names)?;
+    put_walk(&mut parts, caller.state, names)?;
     parts.extend_from_slice(&[
-        asks_for(READ, node_label(state, names)),
+        asks_for(READ, node_label(caller.state, names)),
         Part::Refuses {
             holds: !names.is_empty(),
             why: Why::NotDirectory,
@@ -147,22 +144,19 @@ fn list_parts(alloc: Global, state: &State, path: &Path) -> Result<Vec<Part>, Al
     Ok(parts)
 }
 
-/// What a call on the tree comes to before its effect, where the caller has these credentials.
+/// What a call on the tree comes to before its effect.
 pub fn tree_judgement(
     alloc: Global,
-    state: &State,
-    rules: &RuleIndex,
-    cred: &Cred,
+    caller: &Caller<'_>,
     call: &TreeCall,
 ) -> Result<Judgement, AllocError>
-    requires { length state.now.files.items < most_nodes }
-    ensures went { IfOk result (λ j. went_in j ≡ went (verdict_by_creds cred.now (ruling_of rules.now)) (tree_asks (world_seen state.now) call.now)) }
-    ensures passes { IfOk result (λ j. j.stop ≡ None → Passes (tree_asks (world_seen state.now) call.now)) }
+    ensures went { IfOk result (λ j. went_in j ≡ went (verdict_by_creds caller.now.cred.now (ruling_of caller.now.rules.now)) (asks_of caller.now call.now)) }
+    ensures passes { IfOk result (λ j. j.stop ≡ None → Passes (asks_of caller.now call.now)) }
 {
     let parts = match call {
-        TreeCall::Create { path } => create_parts(alloc, state, path)?,
-        TreeCall::Unlink { path } => unlink_parts(alloc, state, path)?,
-        TreeCall::ListDir { path, at: _ } => list_parts(alloc, state, path)?,
+        TreeCall::Create { path } => create_parts(alloc, caller, path)?,
+        TreeCall::Unlink { path } => unlink_parts(alloc, caller, path)?,
+        TreeCall::ListDir { path, at: _ } => list_parts(alloc, caller, path)?,
     };
-    judge_parts(alloc, cred, rules, parts.as_slice())
+    judge_parts(alloc, caller.cred, caller.rules, parts.as_slice())
 }

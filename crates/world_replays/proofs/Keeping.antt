@@ -6,38 +6,30 @@ use Rattle.rules_spec.specs.Rulings.{Ruling}
 use Rattle.rules_spec.specs.Creds.{Creds}
 use Rattle.world_spec.specs.declared.Call.{Call}
 use Rattle.world_spec.specs.declared.Call.TheVariants as Call
-use Rattle.world_spec.specs.declared.TaskCall.{TaskCall}
-use Rattle.world_spec.specs.declared.TaskCall.TheVariants as TaskCall
-use Rattle.world_spec.specs.declared.TreeCall.{TreeCall}
-use Rattle.world_spec.specs.declared.TreeCall.TheVariants as TreeCall
+use Rattle.world_spec.specs.declared.Answer.{Answer}
 use Rattle.world_spec.specs.declared.Reply.{Reply}
-use Rattle.world_spec.specs.Worlds.{World, TaskRow, live_task, creds_in, creds_or_first, creds_of, with_creds, with_pending, without_life, with_child}
-use Rattle.world_spec.specs.Steps.{Effect, signalled, effect, stepped, went, verdict_of}
+use Rattle.world_spec.specs.Replies.{makes}
+use Rattle.world_spec.specs.Worlds.{World, TaskRow, creds_in, creds_or_first, creds_of, changed_at, with_child}
+use Rattle.world_spec.specs.Steps.{Effect, TaskEffect, NoChange, NewCreds, LifeEnds, NewChild, NewSignal, SignalTaken, tasks_after, task_reply, task_left, effect, stepped, went, verdict_of}
 use Rattle.world_spec.specs.Questions.{asks}
-use Rattle.world_spec.specs.Replays.{makes}
 use Rattle.world_replays.specs.Laws.{OthersKeepCreds}
 
--- credentials that another task gets
-other_creds : (rows : List TaskRow) (n k : ℕ) (c : Creds) → (n ≡ k → ⊥) → creds_in (with_creds rows n c) k ≡ creds_in rows k
-other_creds [] n k c apart = refl
-other_creds (r ∷ rs) zero zero c apart = absurd (apart refl)
-other_creds (r ∷ rs) zero (suc k) c apart = refl
-other_creds (r ∷ rs) (suc n) zero c apart = refl
-other_creds (r ∷ rs) (suc n) (suc k) c apart = other_creds rs n k c (λ same. apart (ap (λ m. suc m) same))
+-- a change of the row of a number that leaves the credentials of another
+pub other_creds : (rows : List TaskRow) (n k : ℕ) (f : TaskRow → TaskRow) → (n ≡ k → ⊥) → creds_in (changed_at rows n f) k ≡ creds_in rows k
+other_creds [] n k f apart = refl
+other_creds (r ∷ rs) zero zero f apart = absurd (apart refl)
+other_creds (r ∷ rs) zero (suc k) f apart = refl
+other_creds (r ∷ rs) (suc n) zero f apart = refl
+other_creds (r ∷ rs) (suc n) (suc k) f apart = other_creds rs n k f (λ same. apart (ap (λ m. suc m) same))
 
-pending_keeps : (rows : List TaskRow) (n k : ℕ) (pending : List ℕ) → creds_in (with_pending rows n pending) k ≡ creds_in rows k
-pending_keeps [] n k pending = refl
-pending_keeps (r ∷ rs) zero zero pending = refl
-pending_keeps (r ∷ rs) zero (suc k) pending = refl
-pending_keeps (r ∷ rs) (suc n) zero pending = refl
-pending_keeps (r ∷ rs) (suc n) (suc k) pending = pending_keeps rs n k pending
-
-exit_keeps : (rows : List TaskRow) (n k : ℕ) → creds_in (without_life rows n) k ≡ creds_in rows k
-exit_keeps [] n k = refl
-exit_keeps (r ∷ rs) zero zero = refl
-exit_keeps (r ∷ rs) zero (suc k) = refl
-exit_keeps (r ∷ rs) (suc n) zero = refl
-exit_keeps (r ∷ rs) (suc n) (suc k) = exit_keeps rs n k
+-- a change of a row that leaves its credentials
+pub same_creds : (rows : List TaskRow) (n k : ℕ) (f : TaskRow → TaskRow) → ((r : TaskRow) → (f r).creds ≡ r.creds)
+    → creds_in (changed_at rows n f) k ≡ creds_in rows k
+same_creds [] n k f keeps = refl
+same_creds (r ∷ rs) zero zero f keeps = ap Some (keeps r)
+same_creds (r ∷ rs) zero (suc k) f keeps = refl
+same_creds (r ∷ rs) (suc n) zero f keeps = refl
+same_creds (r ∷ rs) (suc n) (suc k) f keeps = same_creds rs n k f keeps
 
 child_keeps : (rows : List TaskRow) (pid : Pid) (c : Creds) (k : ℕ) → (length rows ≡ k → ⊥) → creds_in (with_child rows pid c) k ≡ creds_in rows k
 child_keeps [] pid c zero apart = absurd (apart refl)
@@ -45,33 +37,20 @@ child_keeps [] pid c (suc k) apart = refl
 child_keeps (r ∷ rs) pid c zero apart = refl
 child_keeps (r ∷ rs) pid c (suc k) apart = child_keeps rs pid c k (λ same. apart (ap (λ m. suc m) same))
 
-signal_keeps : (rows : List TaskRow) (target : Option ℕ) (sig k : ℕ) → creds_in (signalled rows target sig) k ≡ creds_in rows k
-signal_keeps rows None sig k = refl
-signal_keeps rows (Some n) sig k = pending_keeps rows n k _
-
-task_keeps : (w : World) (version : Ruling) (task k : ℕ) (call : TaskCall) → (task ≡ k → ⊥)
-    → makes k (effect w version task (Call.Task call)).reply ≡ false
-    → creds_in (effect w version task (Call.Task call)).world.tasks k ≡ creds_in w.tasks k
-task_keeps w version task k (TaskCall.Fork pid) apart unmade = child_keeps w.tasks pid _ k (eqb-false (length w.tasks) k unmade)
-task_keeps w version task k TaskCall.Exit apart unmade = exit_keeps w.tasks task k
-task_keeps w version task k (TaskCall.Relabel l) apart unmade = other_creds w.tasks task k _ apart
-task_keeps w version task k (TaskCall.DropCap cap) apart unmade = other_creds w.tasks task k _ apart
-task_keeps w version task k (TaskCall.SelfRules rules) apart unmade = other_creds w.tasks task k _ apart
-task_keeps w version task k (TaskCall.Relabels labels) apart unmade = other_creds w.tasks task k _ apart
-task_keeps w version task k (TaskCall.Kill pid sig) apart unmade = signal_keeps w.tasks (live_task w.tasks pid) sig k
-task_keeps w version task k TaskCall.Take apart unmade = pending_keeps w.tasks task k _
-task_keeps w version task k (TaskCall.TraceRead pid) apart unmade = refl
-task_keeps w version task k (TaskCall.TraceAttach pid) apart unmade = refl
-
-tree_keeps : (w : World) (version : Ruling) (task : ℕ) (call : TreeCall) → (effect w version task (Call.Tree call)).world.tasks ≡ w.tasks
-tree_keeps w version task (TreeCall.Create path) = refl
-tree_keeps w version task (TreeCall.Unlink path) = refl
-tree_keeps w version task (TreeCall.ListDir path at) = refl
+change_keeps : (rows : List TaskRow) (task k : ℕ) (change : TaskEffect) (answer : Answer) → (task ≡ k → ⊥)
+    → makes k (task_reply rows change answer) ≡ false → creds_in (tasks_after rows task change) k ≡ creds_in rows k
+change_keeps rows task k NoChange answer apart unmade = refl
+change_keeps rows task k (NewCreds creds) answer apart unmade = other_creds rows task k _ apart
+change_keeps rows task k LifeEnds answer apart unmade = same_creds rows task k _ (λ r. refl)
+change_keeps rows task k (NewChild pid) answer apart unmade = child_keeps rows pid _ k (eqb-false (length rows) k unmade)
+change_keeps rows task k (NewSignal n sig) answer apart unmade = same_creds rows n k _ (λ r. refl)
+change_keeps rows task k SignalTaken answer apart unmade = same_creds rows task k _ (λ r. refl)
 
 effect_keeps : (w : World) (version : Ruling) (task k : ℕ) (call : Call) → (task ≡ k → ⊥)
     → makes k (effect w version task call).reply ≡ false → creds_of (effect w version task call).world k ≡ creds_of w k
-effect_keeps w version task k (Call.Task call) apart unmade = ap creds_or_first (task_keeps w version task k call apart unmade)
-effect_keeps w version task k (Call.Tree call) apart unmade = ap (λ tasks. creds_or_first (creds_in tasks k)) (tree_keeps w version task call)
+effect_keeps w version task k (Call.Task call) apart unmade =
+    let left = task_left w version task call in ap creds_or_first (change_keeps w.tasks task k left.change left.answer apart unmade)
+effect_keeps w version task k (Call.Tree call) apart unmade = refl
 
 stepped_keeps : (w : World) (k : ℕ) (e : Effect) (checks : List Verdict) (stop : Option Reply)
     → (makes k e.reply ≡ false → creds_of e.world k ≡ creds_of w k)

@@ -1,4 +1,5 @@
 pub mod Standing
+pub mod Changes
 pub mod Keeping
 pub mod Points
 pub mod Worked

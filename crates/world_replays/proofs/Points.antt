@@ -5,8 +5,9 @@ use Rattle.std.proofs.lemmas.Bool.{cases_Bool, eq-eqb, lt-ltb}
 use Rattle.std.proofs.lemmas.List.Folds.{list_any-append}
 use Rattle.rules_spec.specs.declared.Batch.{Batch}
 use Rattle.world_spec.specs.declared.Entry.{Entry}
+use Rattle.world_spec.specs.Replies.{makes}
 use Rattle.world_spec.specs.Worlds.{World, world_first, creds_of}
-use Rattle.world_spec.specs.Replays.{AreSteps, version_of, after_entry, replay_of, makes, comes_before_call, up_to_last}
+use Rattle.world_spec.specs.Replays.{AreSteps, version_of, after_entry, replay_of, comes_before_call, up_to_last}
 use Rattle.world_replays.specs.Laws.{OthersKeepCredAt, CredAtIsNow}
 use Rattle.world_replays.proofs.Keeping.{others_keep}
 

@@ -4,9 +4,10 @@ use Rattle.rules_spec.specs.declared.Batch.{Batch}
 use Rattle.rules_spec.specs.Rulings.{Ruling}
 use Rattle.world_spec.specs.declared.Call.{Call}
 use Rattle.world_spec.specs.declared.Entry.{Entry}
+use Rattle.world_spec.specs.Replies.{makes}
 use Rattle.world_spec.specs.Worlds.{World, world_first, creds_of}
 use Rattle.world_spec.specs.Steps.{step}
-use Rattle.world_spec.specs.Replays.{StandsOver, AreSteps, step_of, replay_of, after_entry, makes, comes_before_call, cred_at}
+use Rattle.world_spec.specs.Replays.{StandsOver, AreSteps, step_of, replay_of, after_entry, comes_before_call, cred_at}
 
 abbrev pub FirstStands : Type 0
 FirstStands = (journal : List Batch) → StandsOver journal [] world_first

@@ -80,18 +80,18 @@ node_label w [] = w.root
 node_label w (n ∷ ns) = label_or_floor (label_of w.files n)
 
 -- what a call on the tree is refused for and what it asks
-abbrev pub tree_asks : World → TreeCall → List Part
-tree_asks w (TreeCall.Create path) =
+abbrev pub tree_asks : World → Ruling → ℕ → Creds → TreeCall → List Part
+tree_asks w version task c (TreeCall.Create path) =
     Part.Refuses (is_root path) Why.IsRoot ∷ walk_to_last w path
     ++ asks_for read_write w.root ∷ Part.Refuses (is_some (label_of w.files (first_name path))) Why.Exists
     ∷ Part.Refuses (nat_le most_nodes (node_count w)) (Why.TreeFull most_nodes) ∷ []
-tree_asks w (TreeCall.Unlink path) =
+tree_asks w version task c (TreeCall.Unlink path) =
     Part.Refuses (is_root path) Why.IsRoot ∷ walk w path ++ asks_for read_write w.root ∷ asks_for read_write (node_label w path) ∷ []
-tree_asks w (TreeCall.ListDir path at) = walk w path ++ asks_for read (node_label w path) ∷ Part.Refuses (not (is_root path)) Why.NotDirectory ∷ []
+tree_asks w version task c (TreeCall.ListDir path at) = walk w path ++ asks_for read (node_label w path) ∷ Part.Refuses (not (is_root path)) Why.NotDirectory ∷ []
 
 abbrev pub call_asks : World → Ruling → ℕ → Creds → Call → List Part
 call_asks w version task c (Call.Task call) = task_asks w version task c call
-call_asks w version task c (Call.Tree call) = tree_asks w call
+call_asks w version task c (Call.Tree call) = tree_asks w version task c call
 
 -- the refusals and questions of a call of a task, in order; first of all, the task must be live
 abbrev pub asks : World → Ruling → ℕ → Call → List Part

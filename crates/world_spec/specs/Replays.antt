@@ -1,11 +1,10 @@
-use Rattle.std.specs.Prelude.{◌≡◌, ◌≤◌, ℕ, Bool, ◌&&◌, ◌||◌, ◌==◌, false, if◌then◌else◌, List, [], ◌∷◌, length, take, fold, nat_lt}
+use Rattle.std.specs.Prelude.{◌≡◌, ◌≤◌, ℕ, Bool, ◌&&◌, ◌||◌, ◌==◌, if◌then◌else◌, List, [], ◌∷◌, length, take, fold, nat_lt}
 use Rattle.std.specs.List.{list_any, AllByRecursion}
 use Rattle.rules_spec.specs.declared.Batch.{Batch}
 use Rattle.rules_spec.specs.Rulings.{Ruling, ruling}
 use Rattle.rules_spec.specs.Creds.{Creds}
 use Rattle.world_spec.specs.declared.Entry.{Entry}
-use Rattle.world_spec.specs.declared.Reply.{Reply}
-use Rattle.world_spec.specs.declared.Reply.TheVariants as Reply
+use Rattle.world_spec.specs.Replies.{makes}
 use Rattle.world_spec.specs.Worlds.{World, world_first, creds_of}
 use Rattle.world_spec.specs.Steps.{Stepped, step}
 
@@ -37,15 +36,6 @@ pub record StandsOver (journal : List Batch) (history : List Entry) (w : World) 
   pub world : w ≡ replay_of journal history
   pub steps : AreSteps journal world_first history
   pub versions : AllByRecursion (λ e. e.version ≤ length journal) history
-
--- the reply tells that the call made this task
-abbrev pub makes : ℕ → Reply → Bool
-makes k Reply.Ok = false
-makes k (Reply.Child n) = n == k
-makes k (Reply.Signal sig) = false
-makes k (Reply.Names count names) = false
-makes k (Reply.Denied case) = false
-makes k (Reply.Refused why) = false
 
 -- an entry by which task k stands at its q-th call: one of its earlier calls, or the fork that made it
 abbrev pub comes_before_call : ℕ → ℕ → Entry → Bool

@@ -1,5 +1,6 @@
 use Rattle.std.specs.Prelude.{ℕ, if◌then◌else◌, List, [], ◌∷◌, Option, Some, None, length, take, drop}
 use Rattle.smack_base.specs.declared.ids.LabelId.{LabelId}
+use Rattle.smack_base.specs.declared.ids.Pid.{Pid}
 use Rattle.smack_base.specs.declared.cap.Cap.TheVariants as Cap
 use Rattle.rules_spec.specs.declared.Verdict.{Verdict}
 use Rattle.rules_spec.specs.Rulings.{Ruling}
@@ -15,10 +16,14 @@ use Rattle.world_spec.specs.declared.TreeCall.{TreeCall}
 use Rattle.world_spec.specs.declared.TreeCall.TheVariants as TreeCall
 use Rattle.world_spec.specs.declared.Call.{Call}
 use Rattle.world_spec.specs.declared.Call.TheVariants as Call
+use Rattle.world_spec.specs.declared.FileRow.{FileRow}
+use Rattle.world_spec.specs.declared.Answer.{Answer}
+use Rattle.world_spec.specs.declared.Answer.TheVariants as Answer
 use Rattle.world_spec.specs.declared.Reply.{Reply}
 use Rattle.world_spec.specs.declared.Reply.TheVariants as Reply
 use Rattle.world_spec.specs.Signals.{with_signal, least_signal, without_least}
-use Rattle.world_spec.specs.Worlds.{World, TaskRow, live_task, creds_of, pending_in, pending_or_none, pending_of, with_creds, with_pending, without_life, with_child, with_file, without_file, names_of, in_byte_order}
+use Rattle.world_spec.specs.Replies.{answered}
+use Rattle.world_spec.specs.Worlds.{World, TaskRow, live_task, creds_in, creds_or_first, creds_of, pending_in, pending_or_none, pending_of, with_creds, with_pending, without_life, with_child, with_file, without_file, names_of, in_byte_order}
 use Rattle.world_spec.specs.Questions.{asks, first_name}
 
 -- what the refusals and questions of a call came to: the verdicts asked, and the reply where one ends the call
@@ -54,59 +59,96 @@ abbrev pub relabelled : Creds → Ruling → LabelId → Creds
 relabelled c version l =
     if is_effective c Cap.MacAdmin version then with_label c l else record (with_label c l) { relabels = [] }
 
--- a signal comes to wait for the task of a number, where there is one
-abbrev pub signalled : List TaskRow → Option ℕ → ℕ → List TaskRow
-signalled tasks None sig = tasks
-signalled tasks (Some n) sig = with_pending tasks n (with_signal (pending_or_none (pending_in tasks n)) sig)
+-- What a call does to the tasks: it keeps all as they are, the caller has these credentials, it is not live any more, it
+-- begins a child of this pid, a signal comes to wait for the task of a number, or the caller takes its least signal.
+pub data TaskEffect : Type 0 where
+  NoChange : TaskEffect
+  NewCreds : Creds → TaskEffect
+  LifeEnds : TaskEffect
+  NewChild : Pid → TaskEffect
+  NewSignal : ℕ → ℕ → TaskEffect
+  SignalTaken : TaskEffect
 
--- the reply that tells a signal
-abbrev pub signal_reply : Option ℕ → Reply
-signal_reply None = Reply.Ok
-signal_reply (Some sig) = Reply.Signal sig
+-- The tasks after a call of a task. A child has a copy of its parent's credentials and no signal that waits, and the
+-- next number.
+abbrev pub tasks_after : List TaskRow → ℕ → TaskEffect → List TaskRow
+tasks_after tasks task NoChange = tasks
+tasks_after tasks task (NewCreds creds) = with_creds tasks task creds
+tasks_after tasks task LifeEnds = without_life tasks task
+tasks_after tasks task (NewChild pid) = with_child tasks pid (creds_or_first (creds_in tasks task))
+tasks_after tasks task (NewSignal n sig) = with_pending tasks n (with_signal (pending_or_none (pending_in tasks n)) sig)
+tasks_after tasks task SignalTaken = with_pending tasks task (without_least (pending_or_none (pending_in tasks task)))
+
+-- a signal comes to wait for the task of a number, where there is one
+abbrev pub signalled : Option ℕ → ℕ → TaskEffect
+signalled None sig = NoChange
+signalled (Some n) sig = NewSignal n sig
+
+-- the answer that tells a signal, where there is one
+abbrev pub signal_answer : Option ℕ → Answer
+signal_answer None = Answer.Ok
+signal_answer (Some sig) = Answer.Signal sig
+
+-- what a call on tasks leaves: what it does to the tasks, and an answer
+pub record TaskLeft : Type 0 where
+  pub change : TaskEffect
+  pub answer : Answer
+
+-- the call does this and says no more than that it was done
+abbrev pub only_does : TaskEffect → TaskLeft
+only_does change = record { change = change; answer = Answer.Ok }
+
+abbrev pub task_left : World → Ruling → ℕ → TaskCall → TaskLeft
+task_left w version task (TaskCall.Fork pid) = only_does (NewChild pid)
+task_left w version task TaskCall.Exit = only_does LifeEnds
+task_left w version task (TaskCall.Relabel l) = only_does (NewCreds (relabelled (creds_of w task) version l))
+task_left w version task (TaskCall.DropCap cap) = only_does (NewCreds (without_cap (creds_of w task) cap))
+task_left w version task (TaskCall.SelfRules rules) =
+    only_does (NewCreds (record (creds_of w task) { self_rules = with_self_rules (creds_of w task).self_rules rules }))
+task_left w version task (TaskCall.Relabels labels) = only_does (NewCreds (record (creds_of w task) { relabels = labels }))
+task_left w version task (TaskCall.Kill pid sig) = only_does (signalled (live_task w.tasks pid) sig)
+task_left w version task TaskCall.Take = record { change = SignalTaken; answer = signal_answer (least_signal (pending_of w task)) }
+task_left w version task (TaskCall.TraceRead pid) = only_does NoChange
+task_left w version task (TaskCall.TraceAttach pid) = only_does NoChange
+
+-- what a call on the tree leaves: the files, and an answer
+pub record TreeLeft : Type 0 where
+  pub files : List FileRow
+  pub answer : Answer
+
+-- a new file has its creator's label
+abbrev pub tree_left : World → Ruling → ℕ → TreeCall → TreeLeft
+tree_left w version task (TreeCall.Create path) =
+    record { files = with_file w.files (record { name = first_name path; label = (creds_of w task).label }); answer = Answer.Ok }
+tree_left w version task (TreeCall.Unlink path) = record { files = without_file w.files (first_name path); answer = Answer.Ok }
+tree_left w version task (TreeCall.ListDir path at) = record {
+  files = w.files;
+  answer = Answer.Names (length w.files) (take most_names (drop at (in_byte_order (names_of w.files))));
+}
 
 -- the world and the reply that an effect leaves
 pub record Effect : Type 0 where
   pub world : World
   pub reply : Reply
 
--- the call leaves these tasks, and this reply
-abbrev pub tasks_left : World → List TaskRow → Reply → Effect
-tasks_left w tasks reply = record { world = record w { tasks = tasks }; reply = reply }
+-- a call that begins a task replies the number of that task, and any other its answer
+abbrev pub task_reply : List TaskRow → TaskEffect → Answer → Reply
+task_reply tasks (NewChild pid) answer = Reply.Child (length tasks)
+task_reply tasks change answer = answered answer
 
--- the call leaves the calling task with these credentials
-abbrev pub creds_left : World → ℕ → Creds → Effect
-creds_left w task creds = tasks_left w (with_creds w.tasks task creds) Reply.Ok
-
--- A child has a copy of its parent's credentials and no signal that waits, and the next number.
-abbrev pub task_effect : World → Ruling → ℕ → TaskCall → Effect
-task_effect w version task (TaskCall.Fork pid) = tasks_left w (with_child w.tasks pid (creds_of w task)) (Reply.Child (length w.tasks))
-task_effect w version task TaskCall.Exit = tasks_left w (without_life w.tasks task) Reply.Ok
-task_effect w version task (TaskCall.Relabel l) = creds_left w task (relabelled (creds_of w task) version l)
-task_effect w version task (TaskCall.DropCap cap) = creds_left w task (without_cap (creds_of w task) cap)
-task_effect w version task (TaskCall.SelfRules rules) =
-    creds_left w task (record (creds_of w task) { self_rules = with_self_rules (creds_of w task).self_rules rules })
-task_effect w version task (TaskCall.Relabels labels) = creds_left w task (record (creds_of w task) { relabels = labels })
-task_effect w version task (TaskCall.Kill pid sig) = tasks_left w (signalled w.tasks (live_task w.tasks pid) sig) Reply.Ok
-task_effect w version task TaskCall.Take =
-    tasks_left w (with_pending w.tasks task (without_least (pending_of w task))) (signal_reply (least_signal (pending_of w task)))
-task_effect w version task (TaskCall.TraceRead pid) = record { world = w; reply = Reply.Ok }
-task_effect w version task (TaskCall.TraceAttach pid) = record { world = w; reply = Reply.Ok }
-
--- a new file has its creator's label
-abbrev pub tree_effect : World → ℕ → TreeCall → Effect
-tree_effect w task (TreeCall.Create path) = record {
-  world = record w { files = with_file w.files (record { name = first_name path; label = (creds_of w task).label }) };
-  reply = Reply.Ok;
-}
-tree_effect w task (TreeCall.Unlink path) = record { world = record w { files = without_file w.files (first_name path) }; reply = Reply.Ok }
-tree_effect w task (TreeCall.ListDir path at) = record {
-  world = w;
-  reply = Reply.Names (length w.files) (take most_names (drop at (in_byte_order (names_of w.files))));
+abbrev pub with_tasks : World → ℕ → TaskLeft → Effect
+with_tasks w task left = record {
+  world = record w { tasks = tasks_after w.tasks task left.change };
+  reply = task_reply w.tasks left.change left.answer;
 }
 
+abbrev pub with_tree : World → TreeLeft → Effect
+with_tree w left = record { world = record w { files = left.files }; reply = answered left.answer }
+
+-- what a call does, where nothing ends it before: a row puts what a family leaves into the world
 abbrev pub effect : World → Ruling → ℕ → Call → Effect
-effect w version task (Call.Task call) = task_effect w version task call
-effect w version task (Call.Tree call) = tree_effect w task call
+effect w version task (Call.Task call) = with_tasks w task (task_left w version task call)
+effect w version task (Call.Tree call) = with_tree w (tree_left w version task call)
 
 -- what a call leaves: the world, the verdicts asked, and the reply
 pub record Stepped : Type 0 where

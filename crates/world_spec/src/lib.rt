@@ -8,6 +8,9 @@
 //! after another from the first world.
 #![tactic(auto)]
 
+ghost use Rattle.std.specs.Prelude.{◌≡◌};
+ghost use Rattle.world_spec.specs.Replies.{answered, child_of};
+
 mod listing;
 
 pub use listing::{ListedNames, Listing};
@@ -159,7 +162,31 @@ pub enum Why {
     TreeFull { limit: u32 },
 }
 
-/// The answer to a call.
+/// What a call says that goes through and makes no task.
+#[derive(Debug, Drop)]
+pub enum Answer {
+    /// It was done.
+    Ok,
+    /// The signal that was taken.
+    Signal(u8),
+    /// How many names there are, and some of them.
+    Names { count: u32, names: Listing },
+}
+
+impl Answer {
+    /// The reply that gives the answer.
+    pub fn reply(self) -> Reply
+        ensures { result ≡ answered self }
+    {
+        match self {
+            Answer::Ok => Reply::Ok,
+            Answer::Signal(sig) => Reply::Signal(sig),
+            Answer::Names { count, names } => Reply::Names { count, names },
+        }
+    }
+}
+
+/// What came of a call.
 #[derive(Debug, Drop)]
 pub enum Reply {
     /// It was done.
@@ -174,6 +201,18 @@ pub enum Reply {
     Denied(u8),
     /// It was refused.
     Refused(Why),
+}
+
+impl Reply {
+    /// The number of the task that a call with this reply made.
+    pub fn child(&self) -> Option<u16>
+        ensures { result ≡ child_of self.now }
+    {
+        match self {
+            Reply::Child(task) => Some(*task),
+            _ => None,
+        }
+    }
 }
 
 impl Duplicate for Reply {

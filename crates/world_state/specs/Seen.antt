@@ -4,4 +4,4 @@ use Rattle.world_state.specs.declared.state.State.{State}
 
 -- the world that some state is
 abbrev pub world_seen : State → World
-world_seen s = record { tasks = s.tasks; root = floor; files = s.files.items }
+world_seen s = record { tasks = s.tasks; root = floor; files = s.files }

@@ -8,8 +8,12 @@
 //! world_spec.
 #![tactic(auto)]
 
+mod caller;
+mod files;
 mod judging;
 mod state;
 
+pub use caller::Caller;
+pub use files::RootFiles;
 pub use judging::{Judgement, asks_for, judge_parts};
 pub use state::{ROOT, State};

@@ -2,18 +2,18 @@ ghost use Rattle.std.specs.Prelude.{◌≡◌};
 ghost use Rattle.world_spec.specs.Worlds.{creds_of};
 ghost use Rattle.world_state.specs.Seen.{world_seen};
 
+use crate::files::RootFiles;
 use smack_base::LabelId;
 use task_table::Tasks;
-use world_spec::FileRow;
 
 /// The label of the root directory.
 pub const ROOT: LabelId = LabelId::FLOOR;
 
-/// What calls act on: the tasks that were ever made, and the files of the root, the oldest first.
+/// What calls act on: the tasks that were ever made, and the files of the root.
 #[derive(Debug, Drop)]
 pub struct State {
     pub tasks: Tasks,
-    pub files: Vec<FileRow>,
+    pub files: RootFiles,
 }
 
 impl State {
