@@ -1,4 +1,4 @@
-use Rattle.std.proofs.Common.{◌≡◌, ℕ, ◌+◌, Bool, true, false, if◌then◌else◌, List, [], ◌∷◌, ◌++◌, length, refl, ap, ◌∙◌, arith, Option, Some, None, Result, Ok, Err}
+use Rattle.std.proofs.Common.{◌≡◌, ⊎_elim, ℕ, ◌+◌, Bool, true, false, if◌then◌else◌, List, [], ◌∷◌, ◌++◌, length, refl, sym, ap, ◌∙◌, arith, Option, Some, None, Result, Ok, Err}
 use Rattle.std.specs.Prelude.{map, reverse}
 use Rattle.std.specs.List.{filter}
 use Rattle.std.proofs.lemmas.List.{length-reverse, length-map, map-append, reverse-append}
@@ -8,13 +8,17 @@ use Rattle.file_spec.specs.declared.Refusal.{Refusal}
 use Rattle.file_spec.specs.declared.Compiled.{Compiled}
 use Rattle.file_spec.specs.declared.Compiled.TheVariants as Compiled
 use Rattle.file_spec.specs.Files.{compiled}
-use Rattle.script_spec.specs.declared.Verb.{Verb}
 use Rattle.script_spec.specs.declared.Verb.TheVariants as Verb
 use Rattle.script_spec.specs.Lines.{ScriptLine, word_in, verb_in}
 use Rattle.script_spec.specs.Tasks.{change_of, is_fork, parents_in, task_names}
 use Rattle.world_spec.specs.declared.TaskCall.TheVariants as TaskCall
+use Rattle.world_spec.specs.declared.Call.{Call}
 use Rattle.world_spec.specs.declared.Call.TheVariants as Call
-use Rattle.replay_spec.specs.Calls.{pid_in, of_one, file_call, call_by, call_of_line}
+use Rattle.replay_spec.specs.declared.Act.{Act}
+use Rattle.replay_spec.specs.declared.Act.TheVariants as Act
+use Rattle.replay_spec.specs.Calls.{pid_in, of_one, file_call}
+use Rattle.replay_spec.specs.Acts.{act_of_line, call_by, call_of_line}
+use Rattle.replay_spec.proofs.ReadCalls.{act_words}
 use Rattle.replayed_records.proofs.InStep.{made_quiet}
 use Rattle.replayed_records.proofs.KnownWords.{forks_counted}
 
@@ -24,26 +28,35 @@ file_other (Ok (Compiled.SelfRules rules)) pid is = cc
 file_other (Ok (Compiled.Relabels list)) pid is = cc
 file_other (Err fault) pid is = cc
 
-named_fork : (found : Option Pid) (pid : Pid) → of_one found (λ p. Call.Task (TaskCall.Fork p)) ≡ Some (Call.Task (TaskCall.Fork pid)) → found ≡ Some pid
-named_fork None pid is = cc
-named_fork (Some p) pid is = cc
+same_fork : (made : Call) (pid : Pid) → ◌≡◌ {A = Option Call} (Some made) (Some (Call.Task (TaskCall.Fork pid))) → made ≡ Call.Task (TaskCall.Fork pid)
+same_fork made pid is = cc
+
+forked_pid : (made pid : Pid) → Call.Task (TaskCall.Fork made) ≡ Call.Task (TaskCall.Fork pid) → made ≡ pid
+forked_pid made pid is = cc
+
+no_exit : (pid : Pid) → Call.Task TaskCall.Exit ≡ Call.Task (TaskCall.Fork pid) → ⊥
+no_exit pid is = cc
 
 module _ (labels names : List (List ℕ)) (l : ScriptLine) (pid : Pid) where
   -- a line that forks a pid has the verb for it, and names the task with the pid
-  abbrev IsForkLine : Option Verb → Type 0
-  IsForkLine verb = (verb ≡ Some Verb.Fork) × (pid_in names (word_in 1 l) ≡ Some pid)
+  abbrev IsForkLine : Type 0
+  IsForkLine = (verb_in l ≡ Some Verb.Fork) × (pid_in names (word_in 1 l) ≡ Some pid)
 
-  fork_verb : (verb : Option Verb) → call_by labels names l verb ≡ Some (Call.Task (TaskCall.Fork pid)) → IsForkLine verb
-  fork_verb None is = cc
-  fork_verb (Some Verb.Write) is = absurd (file_other (compiled labels (word_in 1 l) l.text.bytes) pid is)
-  fork_verb (Some Verb.Ask) is = cc
-  fork_verb (Some Verb.Wait) is = cc
-  fork_verb (Some Verb.Fork) is = (refl, named_fork (pid_in names (word_in 1 l)) pid is)
-  fork_verb (Some Verb.Exit) is = cc
-  fork_verb (Some (Verb.Call verb)) is = absurd (made_quiet labels names l verb (Call.Task (TaskCall.Fork pid)) is)
+  fork_act : (act : Option Act) → act_of_line labels names l ≡ act → call_by labels l act ≡ Some (Call.Task (TaskCall.Fork pid)) → IsForkLine
+  fork_act None does is = cc
+  fork_act (Some Act.Write) does is = absurd (file_other (compiled labels (word_in 1 l) l.text.bytes) pid is)
+  fork_act (Some (Act.Ask s o m)) does is = cc
+  fork_act (Some (Act.Wait child)) does is = cc
+  fork_act (Some (Act.Fork made)) does is =
+      let words = act_words labels names l (Act.Fork made) does in
+      (words.0, words.1 ∙ ap (λ p. Some p) (forked_pid made pid (same_fork _ pid is)))
+  fork_act (Some (Act.Make call)) does is =
+      let same = same_fork call pid is in
+      ⊎_elim (λ e. absurd (no_exit pid (sym e.1 ∙ same)))
+      (λ m. absurd (made_quiet labels names l m.0 (Call.Task (TaskCall.Fork pid)) (m.2 ∙ is))) (act_words labels names l (Act.Make call) does)
 
-  pub fork_line : call_of_line labels names l ≡ Some (Call.Task (TaskCall.Fork pid)) → IsForkLine (verb_in l)
-  fork_line is = fork_verb (verb_in l) is
+  pub fork_line : call_of_line labels names l ≡ Some (Call.Task (TaskCall.Fork pid)) → IsForkLine
+  fork_line is = fork_act (act_of_line labels names l) refl is
 
 -- the parents with one more line
 pub parents_more : (above : List ScriptLine) (l : ScriptLine)

@@ -15,7 +15,10 @@ use Rattle.world_spec.specs.Worlds.{most_tasks}
 use Rattle.world_spec.specs.Steps.{step}
 use Rattle.record_spec.specs.declared.AskedWhat.{AskedWhat}
 use Rattle.record_spec.specs.declared.AskedWhat.TheVariants as AskedWhat
-use Rattle.replay_spec.specs.Calls.{pid_in, of_one, call_by, call_of_line}
+use Rattle.replay_spec.specs.declared.Act.TheVariants as Act
+use Rattle.replay_spec.specs.Calls.{pid_in, of_one}
+use Rattle.replay_spec.specs.Acts.{act_by, call_by, call_of_line}
+use Rattle.replay_spec.proofs.ReadCalls.{act_words}
 use Rattle.replay_spec.specs.Plain.{IsNameTable}
 use Rattle.replay_spec.specs.Replays.{Run}
 use Rattle.legal_spec.specs.Calls.{Stands, IsForkOf}
@@ -54,9 +57,10 @@ verb_forks_nothing l verb is nothing = ap (λ v. is_fork (change_by v l)) is ∙
 
 asked_forks_nothing : (labels names : List (List ℕ)) (l : ScriptLine) (what : AskedWhat) → IsAskedOfLine labels names l what
     → is_fork (change_of l) ≡ false
-asked_forks_nothing labels names l (AskedWhat.Ask v) of = verb_forks_nothing l Verb.Ask of.0 refl
+asked_forks_nothing labels names l (AskedWhat.Ask v) of =
+    verb_forks_nothing l Verb.Ask (act_words labels names l (Act.Ask v.subject v.object v.modes) of).0 refl
 asked_forks_nothing labels names l (AskedWhat.Refused file fault) of = verb_forks_nothing l Verb.Write of.0 refl
-asked_forks_nothing labels names l (AskedWhat.Wait pid) of = verb_forks_nothing l Verb.Wait of.0 refl
+asked_forks_nothing labels names l (AskedWhat.Wait pid) of = verb_forks_nothing l Verb.Wait (act_words labels names l (Act.Wait pid) of).0 refl
 
 same_number : (a b : ℕ) → Reply.Child a ≡ Reply.Child b → a ≡ b
 same_number a b is = cc
@@ -227,7 +231,7 @@ module _ (labels names : List (List ℕ)) (table : IsNameTable names) where
             let pid = pid_is_next labels names above l run good in_step table rest whole verb in
             let given : call ≡ Call.Task (TaskCall.Fork (record { 0 = length (task_names above) })) =
             same_call call (Call.Task (TaskCall.Fork (record { 0 = length (task_names above) })))
-            (sym of ∙ ap (call_by labels names l) verb ∙ ap (λ (p : Option Pid). of_one p (λ x. Call.Task (TaskCall.Fork x))) pid) in
+            (sym of ∙ ap (call_by labels l) (ap (act_by labels names l) verb ∙ ap (λ (p : Option Pid). of_one p (λ x. Act.Fork x)) pid)) in
             fork_entry labels names above l run good in_step table rest whole verb call given forked
         | inr nothing ↦
             quiet_entry above l nothing run.history (entry_by run l call)

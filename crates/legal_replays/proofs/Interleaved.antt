@@ -53,16 +53,16 @@ line_recorded task i l at own = subst (λ (k : ℕ). IsRecorded faster_child k l
         (entry_of 0 (entered 0 1 0 (TaskCall.Fork b_pid) (Reply.Child 1)) refl refl refl refl)
     by (suc zero) at =
         subst (λ (x : ScriptLine). IsRecorded faster_child x.task x) (same_some _ l at)
-        (asked_of 0 (asked_in 0 2 1 (AskedWhat.Ask by_rule)) refl refl refl (refl, refl, refl, refl))
+        (asked_of 0 (asked_in 0 2 1 (AskedWhat.Ask by_rule)) refl refl refl refl)
     by (suc (suc zero)) at =
         subst (λ (x : ScriptLine). IsRecorded faster_child x.task x) (same_some _ l at)
         (batch_of 0 (published 1 1 (RuleOp.Set a_label c_label read)) refl refl refl (refl, refl))
     by (suc (suc (suc zero))) at =
         subst (λ (x : ScriptLine). IsRecorded faster_child x.task x) (same_some _ l at)
-        (asked_of 1 (asked_in 0 3 1 (AskedWhat.Wait b_pid)) refl refl refl (refl, refl))
+        (asked_of 1 (asked_in 0 3 1 (AskedWhat.Wait b_pid)) refl refl refl refl)
     by (suc (suc (suc (suc zero)))) at =
         subst (λ (x : ScriptLine). IsRecorded faster_child x.task x) (same_some _ l at)
-        (asked_of 2 (asked_in 0 4 1 (AskedWhat.Ask by_rule)) refl refl refl (refl, refl, refl, refl))
+        (asked_of 2 (asked_in 0 4 1 (AskedWhat.Ask by_rule)) refl refl refl refl)
     by (suc (suc (suc (suc (suc n))))) at = cc
 
 parent_only : (k : ℕ) → IsNumberOf faster_child.history k (record { 0 = 0 }) → k ≡ 0

@@ -1,25 +1,18 @@
 use Rattle.std.proofs.Common.{◌≡◌, ℕ, Bool, true, false, if◌then◌else◌, List, [], ◌∷◌, ◌++◌, length, refl, sym, ap, subst, ◌∙◌, append_assoc, append-nil, fold, Option, Some, None, Result, Ok, Err}
 use Rattle.std.specs.Prelude.{is_some}
-use Rattle.smack_base.specs.declared.modes.Modes.{Modes}
-use Rattle.smack_base.specs.declared.ids.LabelId.{LabelId}
-use Rattle.smack_base.specs.declared.ids.Pid.{Pid}
 use Rattle.smack_base.specs.declared.cap.Cap.TheVariants as Cap
 use Rattle.smack_base.specs.declared.rule_op.RuleOp.{RuleOp}
-use Rattle.smack_base.specs.Modes.{is_modes}
 use Rattle.rules_spec.specs.declared.Batch.{Batch}
 use Rattle.rules_spec.specs.Rulings.{ruling}
 use Rattle.rules_spec.specs.Cases.{verdict_of_cases}
 use Rattle.rules_spec.specs.Creds.{is_effective}
-use Rattle.text_spec.specs.Names.{has_name, id_of}
 use Rattle.file_spec.specs.declared.Refusal.{Refusal}
 use Rattle.file_spec.specs.declared.Refusal.TheVariants as Refusal
 use Rattle.file_spec.specs.declared.Compiled.{Compiled}
 use Rattle.file_spec.specs.declared.Compiled.TheVariants as Compiled
 use Rattle.file_spec.specs.Writes.{rule_file}
 use Rattle.file_spec.specs.Files.{compiled}
-use Rattle.script_spec.specs.declared.Verb.{Verb}
-use Rattle.script_spec.specs.declared.Verb.TheVariants as Verb
-use Rattle.script_spec.specs.Lines.{ScriptLine, word_in, verb_in, table_of}
+use Rattle.script_spec.specs.Lines.{ScriptLine, word_in, table_of}
 use Rattle.script_spec.specs.Tasks.{task_names}
 use Rattle.script_spec.specs.Grammar.{parse}
 use Rattle.world_spec.specs.declared.TaskCall.TheVariants as TaskCall
@@ -31,15 +24,18 @@ use Rattle.world_spec.specs.Steps.{Stepped, step}
 use Rattle.record_spec.specs.declared.AskedLine.{AskedLine}
 use Rattle.record_spec.specs.declared.AskedWhat.{AskedWhat}
 use Rattle.record_spec.specs.declared.AskedWhat.TheVariants as AskedWhat
-use Rattle.replay_spec.specs.Calls.{pid_in, of_one, made_call, fork_call, file_call, call_by, call_of_line}
+use Rattle.replay_spec.specs.declared.Act.{Act}
+use Rattle.replay_spec.specs.declared.Act.TheVariants as Act
+use Rattle.replay_spec.specs.Calls.{of_one, file_call}
+use Rattle.replay_spec.specs.Acts.{act_of_line, call_by}
+use Rattle.replay_spec.proofs.ReadCalls.{act_words}
 use Rattle.replay_spec.specs.Plain.{IsNameTable}
-use Rattle.replay_spec.specs.Replays.{Run, run_first, number_of_task, with_asked, noted, published, stepped_by, written, modes_in, answered, awaited, entered, after_verb, after_line, run_of}
+use Rattle.replay_spec.specs.Replays.{Run, run_first, number_of_task, with_asked, noted, published, stepped_by, written, after_act, after_acting, after_line, run_of}
 use Rattle.legal_spec.specs.Lines.{IsBatchOfLine, IsCallOfLine, IsRefusalOfLine, IsAskedOfLine}
 use Rattle.plain_records.proofs.GoodLines.{IsGoodLine, good_verb, AreGoodLines, good_lines}
 use Rattle.plain_records.proofs.Tasks.{names_behind, names_are_a_table}
 use Rattle.replayed_records.proofs.InStep.{IsInStep, number_is_pid, line_in_step}
-use Rattle.replayed_records.proofs.KnownWords.{IsMade}
-use Rattle.replayed_records.proofs.EachLine.{line_is_made, first_in_step}
+use Rattle.replayed_records.proofs.EachLine.{good_line_does, first_in_step}
 use Rattle.legal_replays.proofs.TextRefusals.{IsTextRefusal, text_refusal, rules_of_file}
 
 abbrev pub batch_by : ScriptLine → List RuleOp → Batch
@@ -131,65 +127,38 @@ module _ (labels names : List (List ℕ)) (run : Run) (l : ScriptLine) (is : num
   text_refused Refusal.NotPrivileged of_text is = absurd of_text
   text_refused (Refusal.JournalFull rows) of_text is = absurd of_text
 
-  written_next : (made : Result Compiled Refusal) → verb_in l ≡ Some Verb.Write → compiled labels (word_in 1 l) l.text.bytes ≡ made
+  written_next : (made : Result Compiled Refusal) → act_of_line labels names l ≡ Some Act.Write → compiled labels (word_in 1 l) l.text.bytes ≡ made
       → Next (written run l made)
-  written_next (Ok (Compiled.Rules ops)) verb made =
+  written_next (Ok (Compiled.Rules ops)) does made =
       by (is_effective (creds_of run.world (number_of_task run l)) Cap.MacAdmin (ruling run.journal)) refl
     where
       by : (may : Bool) → is_effective (creds_of run.world (number_of_task run l)) Cap.MacAdmin (ruling run.journal) ≡ may
           → Next (if may then published run l ops else noted run l (AskedWhat.Refused (word_in 1 l) Refusal.NotPrivileged))
-      by true may = published_next ops (verb, made) may
+      by true may = published_next ops (act_words labels names l Act.Write does, made) may
       by false may =
-          noted_next (AskedWhat.Refused (word_in 1 l) Refusal.NotPrivileged) (verb, refl, (ops, made)) (
+          noted_next (AskedWhat.Refused (word_in 1 l) Refusal.NotPrivileged) (act_words labels names l Act.Write does, refl, (ops, made)) (
             rules_of_file labels (word_in 1 l) l.text.bytes ops made,
             subst (λ (k : ℕ). is_effective (creds_of run.world k) Cap.MacAdmin (ruling run.journal) ≡ false) is may,
           )
-  written_next (Ok (Compiled.SelfRules rules)) verb made =
-      stepped_next (Call.Task (TaskCall.SelfRules rules)) (ap (call_by labels names l) verb ∙ ap (λ m. of_one (file_call m) (λ call. Call.Task call)) made)
-  written_next (Ok (Compiled.Relabels list)) verb made =
-      stepped_next (Call.Task (TaskCall.Relabels list)) (ap (call_by labels names l) verb ∙ ap (λ m. of_one (file_call m) (λ call. Call.Task call)) made)
-  written_next (Err fault) verb made =
+  written_next (Ok (Compiled.SelfRules rules)) does made =
+      stepped_next (Call.Task (TaskCall.SelfRules rules)) (ap (call_by labels l) does ∙ ap (λ m. of_one (file_call m) (λ call. Call.Task call)) made)
+  written_next (Ok (Compiled.Relabels list)) does made =
+      stepped_next (Call.Task (TaskCall.Relabels list)) (ap (call_by labels l) does ∙ ap (λ m. of_one (file_call m) (λ call. Call.Task call)) made)
+  written_next (Err fault) does made =
       let refused = text_refused fault (text_refusal labels (word_in 1 l) l.text.bytes fault made) made in
-      noted_next (AskedWhat.Refused (word_in 1 l) fault) (verb, refl, refused.0) refused.1
+      noted_next (AskedWhat.Refused (word_in 1 l) fault) (act_words labels names l Act.Write does, refl, refused.0) refused.1
 
-  answered_next : (s o : Option LabelId) (m : Option Modes) → verb_in l ≡ Some Verb.Ask → id_of labels (word_in 1 l) ≡ s
-      → id_of labels (word_in 2 l) ≡ o → modes_in (word_in 3 l) ≡ m → is_some s ≡ true → is_some o ≡ true → is_some m ≡ true
-      → Next (answered run l s o m)
-  answered_next (Some s) (Some o) (Some m) verb subject object modes has_s has_o has_m =
-      noted_next (AskedWhat.Ask (verdict_of_cases (ruling run.journal) s o m)) (verb, subject, object, modes) refl
-  answered_next (Some s) (Some o) None verb subject object modes has_s has_o has_m = cc
-  answered_next (Some s) None m verb subject object modes has_s has_o has_m = cc
-  answered_next None o m verb subject object modes has_s has_o has_m = cc
+  act_next : (act : Act) → act_of_line labels names l ≡ Some act → Next (after_act labels run l act)
+  act_next Act.Write does = written_next (compiled labels (word_in 1 l) l.text.bytes) does refl
+  act_next (Act.Ask s o m) does = noted_next (AskedWhat.Ask (verdict_of_cases (ruling run.journal) s o m)) does refl
+  act_next (Act.Wait pid) does = noted_next (AskedWhat.Wait pid) does tt
+  act_next (Act.Fork pid) does = stepped_next (Call.Task (TaskCall.Fork pid)) (ap (call_by labels l) does)
+  act_next (Act.Make call) does = stepped_next call (ap (call_by labels l) does)
 
-  awaited_next : (pid : Option Pid) → verb_in l ≡ Some Verb.Wait → pid_in names (word_in 1 l) ≡ pid → is_some pid ≡ true → Next (awaited run l pid)
-  awaited_next None verb at has = cc
-  awaited_next (Some pid) verb at has = noted_next (AskedWhat.Wait pid) (verb, at) tt
-
-  entered_next : (call : Option Call) → call_of_line labels names l ≡ call → is_some call ≡ true → Next (entered run l call)
-  entered_next None of has = cc
-  entered_next (Some call) of has = stepped_next call of
-
-  made_some : {A C : Type 0} (a : Option A) (make : A → C) → is_some a ≡ true → is_some (of_one a make) ≡ true
-  made_some None make found = cc
-  made_some (Some x) make found = refl
-
-  known_label : (word : List ℕ) → has_name labels word ≡ true → is_some (id_of labels word) ≡ true
-  known_label word has = rw has refl
-
-  known_modes : (word : List ℕ) → is_modes word ≡ true → is_some (modes_in word) ≡ true
-  known_modes word are = rw are refl
-
-  -- a call whose words are found leaves one thing in the record
-  pub verb_next : (verb : Verb) → verb_in l ≡ Some verb → IsMade labels names l verb → Next (after_verb labels names run l (Some verb))
-  verb_next Verb.Write verb made = written_next (compiled labels (word_in 1 l) l.text.bytes) verb refl
-  verb_next Verb.Ask verb made =
-      answered_next (id_of labels (word_in 1 l)) (id_of labels (word_in 2 l)) (modes_in (word_in 3 l)) verb refl refl refl
-      (known_label (word_in 1 l) made.0) (known_label (word_in 2 l) made.1) (known_modes (word_in 3 l) made.2)
-  verb_next Verb.Wait verb made = awaited_next (pid_in names (word_in 1 l)) verb refl made
-  verb_next Verb.Fork verb made =
-      entered_next (fork_call names l) (ap (call_by labels names l) verb) (made_some (pid_in names (word_in 1 l)) (λ pid. Call.Task (TaskCall.Fork pid)) made)
-  verb_next Verb.Exit verb made = entered_next (Some (Call.Task TaskCall.Exit)) (ap (call_by labels names l) verb) refl
-  verb_next (Verb.Call v) verb made = entered_next (made_call labels names l v) (ap (call_by labels names l) verb) made
+  -- a line that does something leaves one thing in the record
+  pub acting_next : (act : Option Act) → act_of_line labels names l ≡ act → is_some act ≡ true → Next (after_acting labels run l act)
+  acting_next None does some = cc
+  acting_next (Some act) does some = act_next act does
 
 -- how a run comes to be, line by line
 pub data Replays (labels names : List (List ℕ)) : List ScriptLine → Run → Type 0 where
@@ -205,8 +174,7 @@ line_next : (above : List ScriptLine) (l : ScriptLine) (behind : List ScriptLine
 line_next above l behind run good in_step =
     let labels = table_of (above ++ l ∷ behind) in
     let names = task_names (above ++ l ∷ behind) in
-    subst (λ verb. IsNext labels names run l (after_verb labels names run l verb)) (sym (good_verb above l good))
-    (verb_next labels names run l (number_is_pid above run l good in_step) good.verb (good_verb above l good) (line_is_made above l behind good))
+    acting_next labels names run l (number_is_pid above run l good in_step) (act_of_line labels names l) refl (good_line_does above l behind good)
 
 lines_replay : (lines above ls : List ScriptLine) → above ++ ls ≡ lines → AreGoodLines above ls → IsNameTable (task_names lines) → (run : Run)
     → IsInStep above run.world.tasks → Replays (table_of lines) (task_names lines) above run

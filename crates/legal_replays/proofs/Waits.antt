@@ -8,6 +8,8 @@ use Rattle.script_spec.specs.Tasks.{change_of, is_fork, has_wait, calls_by, pare
 use Rattle.world_spec.specs.declared.Entry.{Entry}
 use Rattle.record_spec.specs.declared.AskedLine.{AskedLine}
 use Rattle.record_spec.specs.declared.AskedWhat.TheVariants as AskedWhat
+use Rattle.replay_spec.specs.declared.Act.TheVariants as Act
+use Rattle.replay_spec.proofs.ReadCalls.{act_words}
 use Rattle.replay_spec.specs.Plain.{IsNameTable}
 use Rattle.replay_spec.specs.Replays.{Run}
 use Rattle.legal_spec.specs.Calls.{Stands, Descends, itself, child, entry as entry_call}
@@ -185,9 +187,10 @@ module _ (labels names : List (List ℕ)) where
             | inr new ↦
                 let what_is : what ≡ AskedWhat.Wait pid = sym (ap (λ x. x.what) new) ∙ is in
                 let of_wait : IsAskedOfLine labels names l (AskedWhat.Wait pid) = subst (λ w. IsAskedOfLine labels names l w) what_is of in
+                let words = act_words labels names l (Act.Wait pid) of_wait in
                 new_wait above run l replays good (forks_are_known labels names table above run replays) after refl
                 (more above l run after replays good in_step rest whole next) refl a (ap (λ x. x.task) new) (ap (λ x. x.seq) new)
-                (ap (λ x. x.version) new) pid (wait_line above l names rest pid good whole of_wait.0 of_wait.1)
+                (ap (λ x. x.version) new) pid (wait_line above l names rest pid good whole words.0 words.1)
           ]
 
   -- each task that waited was told

@@ -15,7 +15,10 @@ use Rattle.record_spec.specs.declared.AskedLine.{AskedLine}
 use Rattle.record_spec.specs.declared.AskedWhat.{AskedWhat}
 use Rattle.record_spec.specs.declared.AskedWhat.TheVariants as AskedWhat
 use Rattle.record_spec.specs.declared.RunRecord.{RunRecord}
-use Rattle.replay_spec.specs.Calls.{of_one, call_by, call_of_line}
+use Rattle.replay_spec.specs.declared.Act.TheVariants as Act
+use Rattle.replay_spec.specs.Calls.{of_one}
+use Rattle.replay_spec.specs.Acts.{act_by, call_by, call_of_line}
+use Rattle.replay_spec.proofs.ReadCalls.{act_words}
 use Rattle.replay_spec.specs.Laws.{lines_of_task}
 use Rattle.replay_spec.specs.Plain.{IsNameTable}
 use Rattle.replayed_records.proofs.InStep.{next_pid}
@@ -52,9 +55,11 @@ line_in (batched n b i ∷ ds) a m (there h) = line_in ds a m h
 
 asked_no_fork : (labels names : List (List ℕ)) (l : ScriptLine) (what : AskedWhat) → IsAskedOfLine labels names l what
     → verb_in l ≡ Some Verb.Fork → ⊥
-asked_no_fork labels names l (AskedWhat.Ask v) is verb = absurd (let x : ◌≡◌ {A = Option Verb} (Some Verb.Ask) (Some Verb.Fork) = sym is.0 ∙ verb in cc)
+asked_no_fork labels names l (AskedWhat.Ask v) is verb =
+    absurd (let x : ◌≡◌ {A = Option Verb} (Some Verb.Ask) (Some Verb.Fork) = sym (act_words labels names l (Act.Ask v.subject v.object v.modes) is).0 ∙ verb in cc)
 asked_no_fork labels names l (AskedWhat.Refused file fault) is verb = absurd (let x : ◌≡◌ {A = Option Verb} (Some Verb.Write) (Some Verb.Fork) = sym is.0 ∙ verb in cc)
-asked_no_fork labels names l (AskedWhat.Wait pid) is verb = absurd (let x : ◌≡◌ {A = Option Verb} (Some Verb.Wait) (Some Verb.Fork) = sym is.0 ∙ verb in cc)
+asked_no_fork labels names l (AskedWhat.Wait pid) is verb =
+    absurd (let x : ◌≡◌ {A = Option Verb} (Some Verb.Wait) (Some Verb.Fork) = sym (act_words labels names l (Act.Wait pid) is).0 ∙ verb in cc)
 
 -- each fork of a history made a task
 abbrev pub ForksMade : List Entry → Type 0
@@ -117,8 +122,9 @@ module _ (lines : List ScriptLine) (good : AreGoodLines [] lines) (table : IsNam
           let whole = ap task_names F.is ∙ (rest.1 ∙ (ap (λ ns. ns ++ rest.0) (names_more F.front F.line ∙ ap (λ ns. task_names F.front ++ ns) one)
           ∙ append_assoc (task_names F.front) (word_in 1 F.line ∷ []) rest.0)) in
           let found = next_pid names (task_names F.front) (word_in 1 F.line) rest.0 whole table in
-          ap (call_by (table_of lines) names F.line) F.verb
-          ∙ ap (λ p. of_one p (λ x. Call.Task (TaskCall.Fork x))) (found ∙ ap (λ n. Some (record { 0 = n })) F.many)
+          ap (call_by (table_of lines) F.line)
+          (ap (act_by (table_of lines) names F.line) F.verb
+          ∙ ap (λ p. of_one p (λ x. Act.Fork x)) (found ∙ ap (λ n. Some (record { 0 = n })) F.many))
 
       by : (L : LifeOf k) (d : Deed) → Has d L.calls → Fits (scripted lines) k F.line.seq d F.line → (i : ℕ) × IsNumberOf h i (record { 0 = pid })
       by L (entered e n) u f =

@@ -1,9 +1,7 @@
 -- The lines of each task of a script are orderly: each wait is for the latest child that is open.
 use Rattle.std.proofs.Common.{◌≡◌, ℕ, ◌<◌, ◌≤◌, ◌==◌, ◌&&◌, ◌||◌, not, Bool, true, false, if◌then◌else◌, List, [], ◌∷◌, ◌++◌, length, sym, refl, ap, ◌∙◌, subst, arith, append_assoc, Some, None}
-use Rattle.std.specs.Prelude.{is_some}
 use Rattle.std.specs.List.{list_any, AllByRecursion}
 use Rattle.std.proofs.lemmas.Bool.{eqb-true, eq-eqb, ne_eqb, ltb-true, and_parts, and_from, and_right, or_from, or_right}
-use Rattle.smack_base.specs.Modes.{modes_of}
 use Rattle.text_spec.specs.Names.{place_of, has_name}
 use Rattle.script_spec.specs.declared.Verb.{Verb}
 use Rattle.script_spec.specs.declared.Verb.TheVariants as Verb
@@ -18,13 +16,13 @@ use Rattle.replay_spec.specs.Plain.{IsNameTable}
 use Rattle.plain_records.proofs.GoodLines.{IsGoodLine, AreGoodLines, good_verb, good_lines}
 use Rattle.plain_records.proofs.Tables.{has_before}
 use Rattle.plain_records.proofs.Tasks.{names_more, names_behind, names_are_a_table}
-use Rattle.replayed_records.proofs.KnownWords.{found_label, child_has_name, IsMade}
-use Rattle.replayed_records.proofs.EachLine.{line_is_made}
+use Rattle.replayed_records.proofs.KnownWords.{child_has_name}
+use Rattle.replayed_records.proofs.EachLine.{good_line_does}
 use Rattle.replayed_records.proofs.InStep.{next_pid}
 use Rattle.legal_replays.proofs.ForkLines.{parents_many}
 use Rattle.legal_replays.proofs.WaitLines.{place_kept}
 use Rattle.task_runs.specs.Scripts.{Scripted, scripted, lines_by}
-use Rattle.task_runs.specs.Orders.{knows_words, is_known, with_open, without_open, open_after, IsOrderlyBehind}
+use Rattle.task_runs.specs.Orders.{is_known, with_open, without_open, open_after, IsOrderlyBehind}
 use Rattle.legal_runs.specs.Laws.{ScriptsAreOrderly}
 
 or_false : (b : Bool) → (b || false) ≡ b
@@ -264,18 +262,6 @@ module _ (above : List ScriptLine) (l : ScriptLine) (good : IsGoodLine above l) 
         (own_by good.verb good.wait
         (subst (λ v. names ≡ tasks.names ++ (forked_name (change_by v l) ++ rest)) (good_verb above l good) split))
 
--- the words of a line that leaves something in a record are known
-words_known : (labels names : List (List ℕ)) (l : ScriptLine) (verb : Verb) → IsMade labels names l verb
-    → knows_words labels names l (Some verb) ≡ true
-words_known labels names l Verb.Write made = refl
-words_known labels names l Verb.Ask made =
-    let modes = ap (λ (t : Bool). is_some (if t then Some (modes_of (word_in 3 l)) else None)) made.2 in
-    and_from _ _ (found_label labels (word_in 1 l) made.0) (and_from _ _ (found_label labels (word_in 2 l) made.1) modes)
-words_known labels names l Verb.Wait made = made
-words_known labels names l Verb.Fork made = made
-words_known labels names l Verb.Exit made = refl
-words_known labels names l (Verb.Call verb) made = made
-
 module _ (lines : List ScriptLine) (table : IsNameTable (task_names lines)) (p : ℕ) where
   abbrev s : Scripted
   s = scripted lines
@@ -283,8 +269,7 @@ module _ (lines : List ScriptLine) (table : IsNameTable (task_names lines)) (p :
   line_known : (above ls : List ScriptLine) (l : ScriptLine) → above ++ l ∷ ls ≡ lines → IsGoodLine above l → is_known s.labels s.names l ≡ true
   line_known above ls l whole good =
       subst (λ (all : List ScriptLine). is_known (table_of all) (task_names all) l ≡ true) whole
-      (ap (knows_words (table_of (above ++ l ∷ ls)) (task_names (above ++ l ∷ ls)) l) (good_verb above l good)
-      ∙ words_known (table_of (above ++ l ∷ ls)) (task_names (above ++ l ∷ ls)) l good.verb (line_is_made above l ls good))
+      (good_line_does above l ls good)
 
   split_names : (above ls : List ScriptLine) (l : ScriptLine) → above ++ l ∷ ls ≡ lines
       → (rest : List (List ℕ)) × (task_names lines ≡ task_names above ++ (forked_name (change_of l) ++ rest))

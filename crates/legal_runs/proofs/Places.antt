@@ -16,7 +16,11 @@ use Rattle.script_spec.specs.declared.Verb.{Verb}
 use Rattle.script_spec.specs.declared.Verb.TheVariants as Verb
 use Rattle.script_spec.specs.Lines.{ScriptLine, word_in, verb_in}
 use Rattle.script_spec.specs.Tasks.{change_by, change_of, forked_name, is_exit, has_exit, task_names}
-use Rattle.replay_spec.specs.Calls.{pid_in, of_one, file_call, call_by, call_of_line}
+use Rattle.replay_spec.specs.declared.Act.{Act}
+use Rattle.replay_spec.specs.declared.Act.TheVariants as Act
+use Rattle.replay_spec.specs.Calls.{pid_in, of_one, file_call}
+use Rattle.replay_spec.specs.Acts.{act_of_line, call_by, call_of_line}
+use Rattle.replay_spec.proofs.ReadCalls.{act_words}
 use Rattle.replay_spec.specs.Plain.{IsNameTable}
 use Rattle.replayed_records.proofs.InStep.{made_quiet, next_pid}
 use Rattle.plain_records.proofs.GoodLines.{IsGoodLine, AreGoodLines}
@@ -180,23 +184,21 @@ file_other (Ok (Compiled.SelfRules rules)) is = cc
 file_other (Ok (Compiled.Relabels list)) is = cc
 file_other (Err fault) is = cc
 
-fork_other : (found : Option Pid) → of_one found (λ pid. Call.Task (TaskCall.Fork pid)) ≡ Some (Call.Task TaskCall.Exit) → ⊥
-fork_other None is = cc
-fork_other (Some pid) is = cc
-
 module _ (labels names : List (List ℕ)) (l : ScriptLine) where
-  exit_verb : (verb : Option Verb) → call_by labels names l verb ≡ Some (Call.Task TaskCall.Exit) → is_exit (change_by verb l) ≡ true
-  exit_verb None is = cc
-  exit_verb (Some Verb.Write) is = absurd (file_other (compiled labels (word_in 1 l) l.text.bytes) is)
-  exit_verb (Some Verb.Ask) is = cc
-  exit_verb (Some Verb.Wait) is = cc
-  exit_verb (Some Verb.Fork) is = absurd (fork_other (pid_in names (word_in 1 l)) is)
-  exit_verb (Some Verb.Exit) is = refl
-  exit_verb (Some (Verb.Call verb)) is = absurd (made_quiet labels names l verb (Call.Task TaskCall.Exit) is)
+  exit_act : (act : Option Act) → act_of_line labels names l ≡ act → call_by labels l act ≡ Some (Call.Task TaskCall.Exit)
+      → is_exit (change_of l) ≡ true
+  exit_act None does is = cc
+  exit_act (Some Act.Write) does is = absurd (file_other (compiled labels (word_in 1 l) l.text.bytes) is)
+  exit_act (Some (Act.Ask s o m)) does is = cc
+  exit_act (Some (Act.Wait pid)) does is = cc
+  exit_act (Some (Act.Fork pid)) does is = cc
+  exit_act (Some (Act.Make call)) does is =
+      ⊎_elim (λ e. ap (λ v. is_exit (change_by v l)) e.0)
+      (λ m. absurd (made_quiet labels names l m.0 (Call.Task TaskCall.Exit) (m.2 ∙ is))) (act_words labels names l (Act.Make call) does)
 
   -- a line that ends its task has the verb for it
   pub exit_line : call_of_line labels names l ≡ Some (Call.Task TaskCall.Exit) → is_exit (change_of l) ≡ true
-  exit_line is = exit_verb (verb_in l) is
+  exit_line is = exit_act (act_of_line labels names l) refl is
 
 any_has : {A : Type 0} (test : A → Bool) (xs : List A) (x : A) → test x ≡ true → Has x xs → list_any test xs ≡ true
 any_has test [] x is h = elim h [ ]

@@ -18,7 +18,8 @@ use Rattle.record_spec.specs.declared.AskedWhat.{AskedWhat}
 use Rattle.record_spec.specs.declared.AskedWhat.TheVariants as AskedWhat
 use Rattle.replay_spec.specs.Plain.{IsPlainBatch, IsPlainCall, IsPlainEntry, IsPlainVerdict, IsPlainReply, IsPlainAnswer, IsPlainWhat, IsPlainAsked}
 use Rattle.replay_spec.proofs.KnownLabels.{known_id}
-use Rattle.replay_spec.proofs.ReadCalls.{known_pid}
+use Rattle.replay_spec.specs.declared.Act.TheVariants as Act
+use Rattle.replay_spec.proofs.ReadCalls.{known_pid, act_words}
 use Rattle.plain_records.proofs.KindsOfWords.{kind_1}
 use Rattle.plain_records.proofs.GoodLines.{AreOfKinds, good_verb, AreGoodLines, good_lines}
 use Rattle.plain_records.proofs.LabelTables.{labels_are_a_table, table_has_first}
@@ -112,11 +113,12 @@ module _ (full : Bool) (lines : List ScriptLine) (good : AreGoodLines [] lines) 
   what_plain : (a : AskedLine) (l : ScriptLine) → Has l lines → (what : AskedWhat) → IsAskedOfLine table names l what
       → IsSo (record_of full (scripted lines) left done t w g labels closed c) a what → IsPlainWhat table names what
   what_plain a l u (AskedWhat.Ask v) is so =
+      let words = act_words table names l (Act.Ask v.subject v.object v.modes) is in
       subst (IsPlainAnswer table) (sym so)
-      (answer_is_plain table (version_of j a.version) v.subject v.object v.modes (known_id table (word_in 1 l) v.subject is.1)
-      (known_id table (word_in 2 l) v.object is.2))
+      (answer_is_plain table (version_of j a.version) v.subject v.object v.modes (known_id table (word_in 1 l) v.subject words.1)
+      (known_id table (word_in 2 l) v.object words.2))
   what_plain a l u (AskedWhat.Refused file fault) is so = subst (λ x. is_file_name x ≡ true) (sym is.1) (file_named [] lines good l u is.0)
-  what_plain a l u (AskedWhat.Wait pid) is so = known_pid names (word_in 1 l) pid is.1
+  what_plain a l u (AskedWhat.Wait pid) is so = known_pid names (word_in 1 l) pid (act_words table names l (Act.Wait pid) is).1
 
   asked_plain : (n : ℕ) (a : AskedLine) → Stands ls n a → IsPlainAsked table names a
   asked_plain n a st =

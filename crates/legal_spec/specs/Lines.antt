@@ -1,6 +1,5 @@
 use Rattle.std.specs.Prelude.{◌≡◌, ◌+◌, ◌<◌, ℕ, List, Some, Ok, Err, length}
 use Rattle.smack_base.specs.declared.rule_op.RuleOp.{RuleOp}
-use Rattle.text_spec.specs.Names.{id_of}
 use Rattle.rules_spec.specs.declared.Verdict.{Verdict}
 use Rattle.file_spec.specs.declared.Refusal.{Refusal}
 use Rattle.file_spec.specs.declared.Refusal.TheVariants as Refusal
@@ -12,8 +11,8 @@ use Rattle.script_spec.specs.Grammar.{most_rows}
 use Rattle.world_spec.specs.declared.Call.{Call}
 use Rattle.record_spec.specs.declared.AskedWhat.{AskedWhat}
 use Rattle.record_spec.specs.declared.AskedWhat.TheVariants as AskedWhat
-use Rattle.replay_spec.specs.Calls.{pid_in, call_of_line}
-use Rattle.replay_spec.specs.Replays.{modes_in}
+use Rattle.replay_spec.specs.declared.Act.TheVariants as Act
+use Rattle.replay_spec.specs.Acts.{act_of_line, call_of_line}
 
 -- the line writes a text to a file of rules or settings, and the text spells these writes
 abbrev pub IsBatchOfLine : List (List ℕ) → ScriptLine → List RuleOp → Type 0
@@ -24,10 +23,8 @@ abbrev pub IsCallOfLine : List (List ℕ) → List (List ℕ) → ScriptLine →
 IsCallOfLine labels names l call = call_of_line labels names l ≡ Some call
 
 -- the line asks for the modes of the verdict on its subject and its object
-abbrev pub IsAskOfLine : List (List ℕ) → ScriptLine → Verdict → Type 0
-IsAskOfLine labels l v =
-    (verb_in l ≡ Some Verb.Ask) × (id_of labels (word_in 1 l) ≡ Some v.subject) × (id_of labels (word_in 2 l) ≡ Some v.object)
-    × (modes_in (word_in 3 l) ≡ Some v.modes)
+abbrev pub IsAskOfLine : List (List ℕ) → List (List ℕ) → ScriptLine → Verdict → Type 0
+IsAskOfLine labels names l v = act_of_line labels names l ≡ Some (Act.Ask v.subject v.object v.modes)
 
 -- The text of the line is refused so. A text refusal is the one that the text has. A batch is refused for want of
 -- privilege, and for want of room where the rows of the journal, the writes and one are more than a journal has.
@@ -42,6 +39,6 @@ IsRefusalOfLine labels l (Refusal.JournalFull rows) =
 
 -- the line is what this asked, refused or waited line says
 abbrev pub IsAskedOfLine : List (List ℕ) → List (List ℕ) → ScriptLine → AskedWhat → Type 0
-IsAskedOfLine labels names l (AskedWhat.Ask v) = IsAskOfLine labels l v
+IsAskedOfLine labels names l (AskedWhat.Ask v) = IsAskOfLine labels names l v
 IsAskedOfLine labels names l (AskedWhat.Refused file fault) = (verb_in l ≡ Some Verb.Write) × (file ≡ word_in 1 l) × IsRefusalOfLine labels l fault
-IsAskedOfLine labels names l (AskedWhat.Wait pid) = (verb_in l ≡ Some Verb.Wait) × (pid_in names (word_in 1 l) ≡ Some pid)
+IsAskedOfLine labels names l (AskedWhat.Wait pid) = act_of_line labels names l ≡ Some (Act.Wait pid)

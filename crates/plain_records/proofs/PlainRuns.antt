@@ -1,19 +1,14 @@
 use Rattle.std.proofs.Common.{◌≡◌, ◌<◌, ℕ, Bool, true, false, if◌then◌else◌, List, [], ◌∷◌, length, refl, ap, ◌∙◌, fold, Option, Some, None, Result, Ok, Err}
 use Rattle.std.specs.List.{AllByRecursion}
-use Rattle.smack_base.specs.declared.modes.Modes.{Modes}
-use Rattle.smack_base.specs.declared.ids.LabelId.{LabelId}
-use Rattle.smack_base.specs.declared.ids.Pid.{Pid}
 use Rattle.smack_base.specs.declared.cap.Cap.TheVariants as Cap
 use Rattle.smack_base.specs.declared.rule_op.RuleOp.{RuleOp}
 use Rattle.rules_spec.specs.Rulings.{ruling}
 use Rattle.rules_spec.specs.Creds.{is_effective}
-use Rattle.text_spec.specs.Names.{id_of}
 use Rattle.file_spec.specs.declared.Refusal.{Refusal}
 use Rattle.file_spec.specs.declared.Refusal.TheVariants as Refusal
 use Rattle.file_spec.specs.declared.Compiled.{Compiled}
 use Rattle.file_spec.specs.declared.Compiled.TheVariants as Compiled
 use Rattle.file_spec.specs.Files.{compiled}
-use Rattle.script_spec.specs.declared.Verb.{Verb}
 use Rattle.script_spec.specs.declared.Verb.TheVariants as Verb
 use Rattle.script_spec.specs.Words.{is_file_name}
 use Rattle.script_spec.specs.Lines.{ScriptLine, word_in, verb_in}
@@ -24,11 +19,14 @@ use Rattle.world_spec.specs.Worlds.{creds_of}
 use Rattle.record_spec.specs.declared.AskedLine.{AskedLine}
 use Rattle.record_spec.specs.declared.AskedWhat.{AskedWhat}
 use Rattle.record_spec.specs.declared.AskedWhat.TheVariants as AskedWhat
-use Rattle.replay_spec.specs.Calls.{pid_in, of_one, made_call, fork_call, file_call, call_by}
-use Rattle.replay_spec.specs.Plain.{HasId, HasPid, IsPlainOp, IsPlainBatch, IsPlainCall, IsPlainEntry, IsPlainWhat, IsPlainAsked}
-use Rattle.replay_spec.specs.Replays.{Run, run_first, number_of_task, is_before, with_asked, noted, published, stepped_by, written, answered, awaited, entered, modes_in, after_verb, after_line, run_of}
+use Rattle.replay_spec.specs.Calls.{of_one, file_call}
+use Rattle.replay_spec.specs.declared.Act.{Act}
+use Rattle.replay_spec.specs.declared.Act.TheVariants as Act
+use Rattle.replay_spec.specs.Acts.{act_of_line, call_by}
+use Rattle.replay_spec.specs.Plain.{IsPlainOp, IsPlainBatch, IsPlainCall, IsPlainEntry, IsPlainWhat, IsPlainAsked}
+use Rattle.replay_spec.specs.Replays.{Run, run_first, number_of_task, is_before, with_asked, noted, published, stepped_by, written, after_act, after_acting, after_line, run_of}
 use Rattle.replay_spec.proofs.KnownLabels.{known_id}
-use Rattle.replay_spec.proofs.ReadCalls.{known_pid}
+use Rattle.replay_spec.proofs.ReadCalls.{known_pid, act_words}
 use Rattle.plain_records.proofs.PlainWrites.{compiled_is_plain}
 use Rattle.plain_records.proofs.Lists.{all_push}
 use Rattle.plain_records.proofs.PlainVerdicts.{answer_is_plain}
@@ -102,50 +100,34 @@ module _ (table names : List (List ℕ)) (first : 0 < length table) where
       stepped_is_plain run l (Call.Task (TaskCall.Relabels list)) plain (gives (Call.Task (TaskCall.Relabels list)) refl)
   written_is_plain run l (Err fault) plain named known gives = noted_is_plain run l (AskedWhat.Refused (word_in 1 l) fault) plain named
 
-  answered_is_plain : (run : Run) (l : ScriptLine) (s o : Option LabelId) (m : Option Modes) → IsPlainRun table names run
-      → ((id : LabelId) → s ≡ Some id → HasId table id) → ((id : LabelId) → o ≡ Some id → HasId table id)
-      → IsPlainRun table names (answered run l s o m)
-  answered_is_plain run l (Some s) (Some o) (Some m) plain subject object =
-      noted_is_plain run l _ plain (answer_is_plain table (ruling run.journal) s o m (subject s refl) (object o refl))
-  answered_is_plain run l (Some s) (Some o) None plain subject object = plain
-  answered_is_plain run l (Some s) None m plain subject object = plain
-  answered_is_plain run l None o m plain subject object = plain
+  -- the run after a line that does something is plain
+  after_act_is_plain : (run : Run) (l : ScriptLine) (act : Act) → act_of_line table names l ≡ Some act → HasFileName l → IsPlainRun table names run
+      → IsPlainRun table names (after_act table run l act)
+  after_act_is_plain run l Act.Write is named plain =
+      written_is_plain run l (compiled table (word_in 1 l) l.text.bytes) plain (named (act_words table names l Act.Write is))
+      (compiled_is_plain table (word_in 1 l) l.text.bytes) (λ call gives. record { line = l; gives = ap (call_by table l) is ∙ gives })
+  after_act_is_plain run l (Act.Ask s o m) is named plain =
+      let words = act_words table names l (Act.Ask s o m) is in
+      noted_is_plain run l _ plain
+      (answer_is_plain table (ruling run.journal) s o m (known_id table (word_in 1 l) s words.1) (known_id table (word_in 2 l) o words.2))
+  after_act_is_plain run l (Act.Wait pid) is named plain =
+      noted_is_plain run l (AskedWhat.Wait pid) plain (known_pid names (word_in 1 l) pid (act_words table names l (Act.Wait pid) is).1)
+  after_act_is_plain run l (Act.Fork pid) is named plain =
+      stepped_is_plain run l (Call.Task (TaskCall.Fork pid)) plain (record { line = l; gives = ap (call_by table l) is })
+  after_act_is_plain run l (Act.Make call) is named plain = stepped_is_plain run l call plain (record { line = l; gives = ap (call_by table l) is })
 
-  awaited_is_plain : (run : Run) (l : ScriptLine) (pid : Option Pid) → IsPlainRun table names run → ((p : Pid) → pid ≡ Some p → HasPid names p)
-      → IsPlainRun table names (awaited run l pid)
-  awaited_is_plain run l None plain known = plain
-  awaited_is_plain run l (Some pid) plain known = noted_is_plain run l (AskedWhat.Wait pid) plain (known pid refl)
-
-  entered_is_plain : (run : Run) (l : ScriptLine) (given : Option Call) → IsPlainRun table names run
-      → ((call : Call) → given ≡ Some call → IsPlainCall table names call) → IsPlainRun table names (entered run l given)
-  entered_is_plain run l None plain gives = plain
-  entered_is_plain run l (Some call) plain gives = stepped_is_plain run l call plain (gives call refl)
-
-  -- the run after one more line is plain
-  after_verb_is_plain : (run : Run) (l : ScriptLine) (verb : Option Verb) → verb_in l ≡ verb → HasFileName l → IsPlainRun table names run
-      → IsPlainRun table names (after_verb table names run l verb)
-  after_verb_is_plain run l None is named plain = plain
-  after_verb_is_plain run l (Some Verb.Write) is named plain =
-      written_is_plain run l (compiled table (word_in 1 l) l.text.bytes) plain (named is) (compiled_is_plain table (word_in 1 l) l.text.bytes)
-      (λ call gives. record { line = l; gives = ap (call_by table names l) is ∙ gives })
-  after_verb_is_plain run l (Some Verb.Ask) is named plain =
-      answered_is_plain run l (id_of table (word_in 1 l)) (id_of table (word_in 2 l)) (modes_in (word_in 3 l)) plain
-      (known_id table (word_in 1 l)) (known_id table (word_in 2 l))
-  after_verb_is_plain run l (Some Verb.Wait) is named plain =
-      awaited_is_plain run l (pid_in names (word_in 1 l)) plain (known_pid names (word_in 1 l))
-  after_verb_is_plain run l (Some Verb.Fork) is named plain =
-      entered_is_plain run l (fork_call names l) plain (λ call gives. record { line = l; gives = ap (call_by table names l) is ∙ gives })
-  after_verb_is_plain run l (Some Verb.Exit) is named plain =
-      stepped_is_plain run l (Call.Task TaskCall.Exit) plain (record { line = l; gives = ap (call_by table names l) is })
-  after_verb_is_plain run l (Some (Verb.Call verb)) is named plain =
-      entered_is_plain run l (made_call table names l verb) plain (λ call gives. record { line = l; gives = ap (call_by table names l) is ∙ gives })
+  -- so is the run after one more line
+  after_acting_is_plain : (run : Run) (l : ScriptLine) (act : Option Act) → act_of_line table names l ≡ act → HasFileName l → IsPlainRun table names run
+      → IsPlainRun table names (after_acting table run l act)
+  after_acting_is_plain run l None is named plain = plain
+  after_acting_is_plain run l (Some act) is named plain = after_act_is_plain run l act is named plain
 
   -- lines whose writes name files keep a run plain
   calls_keep_plain : (lines : List ScriptLine) → AllByRecursion HasFileName lines → (run : Run) → IsPlainRun table names run
       → IsPlainRun table names (fold (after_line table names) run lines)
   calls_keep_plain [] named run plain = plain
   calls_keep_plain (l ∷ ls) named run plain =
-      calls_keep_plain ls named.1 (after_line table names run l) (after_verb_is_plain run l (verb_in l) refl named.0 plain)
+      calls_keep_plain ls named.1 (after_line table names run l) (after_acting_is_plain run l (act_of_line table names l) refl named.0 plain)
 
   -- a run of lines whose writes name files is plain
   pub run_is_plain : (lines : List ScriptLine) → AllByRecursion HasFileName lines → IsPlainRun table names (run_of table names lines)

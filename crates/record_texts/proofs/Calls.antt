@@ -13,7 +13,9 @@ use Rattle.world_spec.specs.declared.Call.{Call}
 use Rattle.log_spec.specs.Shown.{LabelAt, spelled}
 use Rattle.log_spec.specs.Audits.{is_word}
 use Rattle.record_spec.specs.Entries.{cap_text, rule_words, call_verb, call_words, verb_words}
-use Rattle.replay_spec.specs.Calls.{of_one, of_two, traced, call_of_line}
+use Rattle.replay_spec.specs.declared.Act.TheVariants as Act
+use Rattle.replay_spec.specs.Calls.{of_one, of_two, traced}
+use Rattle.replay_spec.specs.Acts.{call_by, call_of_line}
 use Rattle.text_spec.specs.Names.{IsLabelTable}
 use Rattle.replay_spec.specs.Plain.{IsNameTable, HasId, IsPlainCall}
 use Rattle.replay_spec.proofs.KnownLabels.{IsKnownPair}
@@ -78,21 +80,29 @@ module _ (labels names : List (List ℕ)) (table : IsLabelTable labels) (tasks :
   labels_clean [] known = tt
   labels_clean (l ∷ ls) known = (name_clean labels table l known.0, labels_clean ls known.1)
 
+  -- a call that words make is that of a line with them
+  made_again : (call : Call) (made : Option Call) → made ≡ Some call
+      → call_by labels (line_of (verb_words labels names call)) (of_one made (λ c. Act.Make c)) ≡ Some call
+  made_again call made is =
+      ap (λ (c : Option Call). call_by labels (line_of (verb_words labels names call)) (of_one c (λ x. Act.Make x))) is
+
   -- a row for each call
   read_is_told : (call : Call) → IsReadCall labels names call → IsToldCall labels names call
   read_is_told (Call.Task (TaskCall.Fork pid)) read = record {
-    again = ap (λ o. of_one o (λ p. Call.Task (TaskCall.Fork p))) (task_again names tasks pid read);
+    again =
+        ap (λ o. call_by labels (line_of (verb_words labels names (Call.Task (TaskCall.Fork pid)))) (of_one o (λ p. Act.Fork p)))
+        (task_again names tasks pid read);
     verb = refl;
     words = (named_clean names tasks pid read, tt);
   }
   read_is_told (Call.Task TaskCall.Exit) read = record { again = refl; verb = refl; words = tt }
   read_is_told (Call.Task (TaskCall.Relabel l)) read = record {
-    again = ap (λ o. of_one (of_one o (λ x. TaskCall.Relabel x)) (λ c. Call.Task c)) (label_again labels table l read);
+    again = made_again (Call.Task (TaskCall.Relabel l)) _ (ap (λ o. of_one (of_one o (λ x. TaskCall.Relabel x)) (λ c. Call.Task c)) (label_again labels table l read));
     verb = refl;
     words = (name_clean labels table l read, tt);
   }
   read_is_told (Call.Task (TaskCall.DropCap cap)) read = record {
-    again = ap (λ o. of_one (of_one o (λ x. TaskCall.DropCap x)) (λ c. Call.Task c)) (cap_again cap);
+    again = made_again (Call.Task (TaskCall.DropCap cap)) _ (ap (λ o. of_one (of_one o (λ x. TaskCall.DropCap x)) (λ c. Call.Task c)) (cap_again cap));
     verb = refl;
     words = (cap_clean cap, tt);
   }
@@ -107,33 +117,33 @@ module _ (labels names : List (List ℕ)) (table : IsLabelTable labels) (tasks :
     words = (numeral_clean (length list), labels_clean list read);
   }
   read_is_told (Call.Task (TaskCall.Kill pid sig)) read = record {
-    again = ap₂ (λ o n. of_one (of_two o n (λ p s. TaskCall.Kill p s)) (λ c. Call.Task c)) (task_again names tasks pid read.0) (signal_again sig read.1);
+    again = made_again (Call.Task (TaskCall.Kill pid sig)) _ (ap₂ (λ o n. of_one (of_two o n (λ p s. TaskCall.Kill p s)) (λ c. Call.Task c)) (task_again names tasks pid read.0) (signal_again sig read.1));
     verb = refl;
     words = (named_clean names tasks pid read.0, (numeral_clean sig, tt));
   }
   read_is_told (Call.Task TaskCall.Take) read = record { again = refl; verb = refl; words = tt }
   read_is_told (Call.Task (TaskCall.TraceRead pid)) read = record {
-    again = ap (λ o. of_one (of_two (Some TraceWay.Read) o traced) (λ c. Call.Task c)) (task_again names tasks pid read);
+    again = made_again (Call.Task (TaskCall.TraceRead pid)) _ (ap (λ o. of_one (of_two (Some TraceWay.Read) o traced) (λ c. Call.Task c)) (task_again names tasks pid read));
     verb = refl;
     words = (refl, (named_clean names tasks pid read, tt));
   }
   read_is_told (Call.Task (TaskCall.TraceAttach pid)) read = record {
-    again = ap (λ o. of_one (of_two (Some TraceWay.Attach) o traced) (λ c. Call.Task c)) (task_again names tasks pid read);
+    again = made_again (Call.Task (TaskCall.TraceAttach pid)) _ (ap (λ o. of_one (of_two (Some TraceWay.Attach) o traced) (λ c. Call.Task c)) (task_again names tasks pid read));
     verb = refl;
     words = (refl, (named_clean names tasks pid read, tt));
   }
   read_is_told (Call.Tree (TreeCall.Create path)) read = record {
-    again = ap (λ o. of_one (of_one o (λ p. TreeCall.Create p)) (λ c. Call.Tree c)) (path_again path read);
+    again = made_again (Call.Tree (TreeCall.Create path)) _ (ap (λ o. of_one (of_one o (λ p. TreeCall.Create p)) (λ c. Call.Tree c)) (path_again path read));
     verb = refl;
     words = (path_clean path read, tt);
   }
   read_is_told (Call.Tree (TreeCall.Unlink path)) read = record {
-    again = ap (λ o. of_one (of_one o (λ p. TreeCall.Unlink p)) (λ c. Call.Tree c)) (path_again path read);
+    again = made_again (Call.Tree (TreeCall.Unlink path)) _ (ap (λ o. of_one (of_one o (λ p. TreeCall.Unlink p)) (λ c. Call.Tree c)) (path_again path read));
     verb = refl;
     words = (path_clean path read, tt);
   }
   read_is_told (Call.Tree (TreeCall.ListDir path at)) read = record {
-    again = ap₂ (λ o n. of_one (of_two o n (λ p m. TreeCall.ListDir p m)) (λ c. Call.Tree c)) (path_again path read.0) (number_again at read.1);
+    again = made_again (Call.Tree (TreeCall.ListDir path at)) _ (ap₂ (λ o n. of_one (of_two o n (λ p m. TreeCall.ListDir p m)) (λ c. Call.Tree c)) (path_again path read.0) (number_again at read.1));
     verb = refl;
     words = (path_clean path read.0, (numeral_clean at, tt));
   }

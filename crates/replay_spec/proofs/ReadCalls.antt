@@ -1,9 +1,9 @@
-use Rattle.std.proofs.Common.{◌≡◌, ℕ, Bool, true, false, cond, List, Option, Some, None, Result, Ok, Err, refl, subst}
+use Rattle.std.proofs.Common.{◌≡◌, ◌⊎◌, ⊎_elim, inl, inr, ℕ, Bool, true, false, cond, List, Option, Some, None, Result, Ok, Err, refl, sym, subst}
 use Rattle.std.specs.Prelude.{length}
 use Rattle.std.specs.List.{AllByRecursion}
 use Rattle.std.proofs.lemmas.Bool.{ltb-true}
 use Rattle.smack_base.specs.declared.ids.Pid.{Pid}
-use Rattle.text_spec.specs.Names.{place_of, has_name}
+use Rattle.text_spec.specs.Names.{place_of, has_name, id_of}
 use Rattle.file_spec.specs.declared.Refusal.{Refusal}
 use Rattle.file_spec.specs.declared.Compiled.{Compiled}
 use Rattle.file_spec.specs.declared.Compiled.TheVariants as Compiled
@@ -26,7 +26,10 @@ use Rattle.world_spec.specs.declared.TreeCall.{TreeCall}
 use Rattle.world_spec.specs.declared.TreeCall.TheVariants as TreeCall
 use Rattle.world_spec.specs.declared.Call.{Call}
 use Rattle.world_spec.specs.declared.Call.TheVariants as Call
-use Rattle.replay_spec.specs.Calls.{path_in, pid_in, of_one, of_two, traced, task_call, tree_call, made_call, file_call, call_by}
+use Rattle.replay_spec.specs.Calls.{path_in, pid_in, modes_in, of_one, of_two, of_three, traced, task_call, tree_call, made_call, file_call}
+use Rattle.replay_spec.specs.declared.Act.{Act}
+use Rattle.replay_spec.specs.declared.Act.TheVariants as Act
+use Rattle.replay_spec.specs.Acts.{act_by, act_of_line, call_by}
 use Rattle.replay_spec.specs.Plain.{HasId, HasPid, IsPlainCall}
 use Rattle.replay_spec.proofs.KnownLabels.{IsKnownPair, IsKnownCompiled, known_id, compiled_known}
 
@@ -57,7 +60,7 @@ abbrev pub IsReadCall : List (List ℕ) → List (List ℕ) → Call → Type 0
 IsReadCall labels names (Call.Task call) = IsReadTask labels names call
 IsReadCall labels names (Call.Tree call) = IsReadTree call
 
--- what holds of all that no word, one word or two words make, holds of what is made of them
+-- what holds of all that no word, one word, two or three words make, holds of what is made of them
 pub of_none_holds : {C : Type 0} (P : C → Type 0) (made c : C) → P made → ◌≡◌ {A = Option C} (Some made) (Some c) → P c
 of_none_holds P made c holds is = let same : made ≡ c = cc in subst P same holds
 
@@ -70,6 +73,12 @@ pub of_two_holds : {A B C : Type 0} (P : C → Type 0) (a : Option A) (b : Optio
 of_two_holds P None b make c each is = absurd cc
 of_two_holds P (Some x) None make c each is = absurd cc
 of_two_holds P (Some x) (Some y) make c each is = let same : make x y ≡ c = cc in subst P same (each x y refl refl)
+
+pub of_three_holds : {A B C D : Type 0} (P : D → Type 0) (a : Option A) (b : Option B) (c : Option C) (make : A → B → C → D) (d : D)
+    → ((x : A) (y : B) (z : C) → a ≡ Some x → b ≡ Some y → c ≡ Some z → P (make x y z)) → of_three a b c make ≡ Some d → P d
+of_three_holds P None b c make d each is = absurd cc
+of_three_holds P (Some x) None c make d each is = absurd cc
+of_three_holds P (Some x) (Some y) c make d each is = of_one_holds P c (make x y) d (λ z third. each x y z refl refl third) is
 
 -- the pid of a word has a name
 pub known_pid : (names : List (List ℕ)) (word : List ℕ) (pid : Pid) → pid_in names word ≡ Some pid → HasPid names pid
@@ -117,18 +126,48 @@ file_is_read labels names (Ok (Compiled.Relabels list)) call known is =
     of_none_holds (IsReadTask labels names) (TaskCall.Relabels list) call (known (Compiled.Relabels list) refl) is
 file_is_read labels names (Err fault) call known is = cc
 
-by_is_read : (labels names : List (List ℕ)) (l : ScriptLine) (verb : Option Verb) (call : Call) → call_by labels names l verb ≡ Some call
-    → IsReadCall labels names call
-by_is_read labels names l None call is = absurd cc
-by_is_read labels names l (Some Verb.Write) call is =
-    of_one_holds (IsReadCall labels names) (file_call (compiled labels (word_in 1 l) l.text.bytes)) (λ c. Call.Task c) call
-    (λ c told. file_is_read labels names (compiled labels (word_in 1 l) l.text.bytes) c (compiled_known labels (word_in 1 l) l.text.bytes) told) is
-by_is_read labels names l (Some Verb.Ask) call is = absurd cc
-by_is_read labels names l (Some Verb.Wait) call is = absurd cc
-by_is_read labels names l (Some Verb.Fork) call is =
-    of_one_holds (IsReadCall labels names) (pid_in names (word_in 1 l)) (λ pid. Call.Task (TaskCall.Fork pid)) call (known_pid names (word_in 1 l)) is
-by_is_read labels names l (Some Verb.Exit) call is = of_none_holds (IsReadCall labels names) (Call.Task TaskCall.Exit) call tt is
-by_is_read labels names l (Some (Verb.Call verb)) call is = call_is_read labels names l verb call is
+-- The verb of a line that does this, and its words.
+module _ (labels names : List (List ℕ)) (l : ScriptLine) where
+  abbrev pub AreWordsOf : Option Verb → Act → Type 0
+  AreWordsOf verb Act.Write = verb ≡ Some Verb.Write
+  AreWordsOf verb (Act.Ask s o m) =
+      (verb ≡ Some Verb.Ask) × (id_of labels (word_in 1 l) ≡ Some s) × (id_of labels (word_in 2 l) ≡ Some o) × (modes_in (word_in 3 l) ≡ Some m)
+  AreWordsOf verb (Act.Wait pid) = (verb ≡ Some Verb.Wait) × (pid_in names (word_in 1 l) ≡ Some pid)
+  AreWordsOf verb (Act.Fork pid) = (verb ≡ Some Verb.Fork) × (pid_in names (word_in 1 l) ≡ Some pid)
+  AreWordsOf verb (Act.Make call) =
+      ((verb ≡ Some Verb.Exit) × (call ≡ Call.Task TaskCall.Exit))
+      ⊎ ((v : CallVerb) × (verb ≡ Some (Verb.Call v)) × (made_call labels names l v ≡ Some call))
+
+  words_by : (verb : Option Verb) (act : Act) → act_by labels names l verb ≡ Some act → AreWordsOf verb act
+  words_by None act is = absurd cc
+  words_by (Some Verb.Write) act is = of_none_holds (AreWordsOf (Some Verb.Write)) Act.Write act refl is
+  words_by (Some Verb.Ask) act is =
+      of_three_holds (AreWordsOf (Some Verb.Ask)) (id_of labels (word_in 1 l)) (id_of labels (word_in 2 l)) (modes_in (word_in 3 l))
+      (λ s o m. Act.Ask s o m) act (λ s o m subject object modes. (refl, subject, object, modes)) is
+  words_by (Some Verb.Wait) act is =
+      of_one_holds (AreWordsOf (Some Verb.Wait)) (pid_in names (word_in 1 l)) (λ pid. Act.Wait pid) act (λ pid found. (refl, found)) is
+  words_by (Some Verb.Fork) act is =
+      of_one_holds (AreWordsOf (Some Verb.Fork)) (pid_in names (word_in 1 l)) (λ pid. Act.Fork pid) act (λ pid found. (refl, found)) is
+  words_by (Some Verb.Exit) act is = of_none_holds (AreWordsOf (Some Verb.Exit)) (Act.Make (Call.Task TaskCall.Exit)) act (inl (refl, refl)) is
+  words_by (Some (Verb.Call verb)) act is =
+      of_one_holds (AreWordsOf (Some (Verb.Call verb))) (made_call labels names l verb) (λ c. Act.Make c) act (λ c makes. inr (verb, refl, makes)) is
+
+  pub act_words : (act : Act) → act_of_line labels names l ≡ Some act → AreWordsOf (verb_in l) act
+  act_words act is = words_by (verb_in l) act is
+
+  act_is_read : (act : Option Act) (call : Call) → act_of_line labels names l ≡ act → call_by labels l act ≡ Some call → IsReadCall labels names call
+  act_is_read None call does is = absurd cc
+  act_is_read (Some Act.Write) call does is =
+      of_one_holds (IsReadCall labels names) (file_call (compiled labels (word_in 1 l) l.text.bytes)) (λ c. Call.Task c) call
+      (λ c told. file_is_read labels names (compiled labels (word_in 1 l) l.text.bytes) c (compiled_known labels (word_in 1 l) l.text.bytes) told) is
+  act_is_read (Some (Act.Ask s o m)) call does is = absurd cc
+  act_is_read (Some (Act.Wait pid)) call does is = absurd cc
+  act_is_read (Some (Act.Fork pid)) call does is =
+      of_none_holds (IsReadCall labels names) (Call.Task (TaskCall.Fork pid)) call
+      (known_pid names (word_in 1 l) pid (act_words (Act.Fork pid) does).1) is
+  act_is_read (Some (Act.Make made)) call does is =
+      of_none_holds (IsReadCall labels names) made call
+      (⊎_elim (λ e. subst (IsReadCall labels names) (sym e.1) tt) (λ m. call_is_read labels names l m.0 made m.2) (act_words (Act.Make made) does)) is
 
 pub plain_is_read : (labels names : List (List ℕ)) (call : Call) → IsPlainCall labels names call → IsReadCall labels names call
-plain_is_read labels names call plain = by_is_read labels names plain.line (verb_in plain.line) call plain.gives
+plain_is_read labels names call plain = act_is_read labels names plain.line (act_of_line labels names plain.line) call refl plain.gives

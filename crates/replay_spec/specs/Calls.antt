@@ -2,12 +2,13 @@ use Rattle.std.specs.Prelude.{ℕ, if◌then◌else◌, List, Option, Some, None
 use Rattle.std.specs.Option.{option_map}
 use Rattle.std.specs.Result.{result_ok}
 use Rattle.smack_base.specs.declared.ids.Pid.{Pid}
+use Rattle.smack_base.specs.declared.modes.Modes.{Modes}
+use Rattle.smack_base.specs.Modes.{modes_of, is_modes}
 use Rattle.smack_base.specs.Paths.{path_of}
 use Rattle.text_spec.specs.Names.{place_of, has_name, id_of}
 use Rattle.file_spec.specs.declared.Refusal.{Refusal}
 use Rattle.file_spec.specs.declared.Compiled.{Compiled}
 use Rattle.file_spec.specs.declared.Compiled.TheVariants as Compiled
-use Rattle.file_spec.specs.Files.{compiled}
 use Rattle.script_spec.specs.declared.TaskVerb.{TaskVerb}
 use Rattle.script_spec.specs.declared.TaskVerb.TheVariants as TaskVerb
 use Rattle.script_spec.specs.declared.TraceWay.{TraceWay}
@@ -16,10 +17,8 @@ use Rattle.script_spec.specs.declared.TreeVerb.{TreeVerb}
 use Rattle.script_spec.specs.declared.TreeVerb.TheVariants as TreeVerb
 use Rattle.script_spec.specs.declared.CallVerb.{CallVerb}
 use Rattle.script_spec.specs.declared.CallVerb.TheVariants as CallVerb
-use Rattle.script_spec.specs.declared.Verb.{Verb}
-use Rattle.script_spec.specs.declared.Verb.TheVariants as Verb
 use Rattle.script_spec.specs.Words.{cap_of, number_of, signal_of, trace_way_of}
-use Rattle.script_spec.specs.Lines.{ScriptLine, word_in, verb_in}
+use Rattle.script_spec.specs.Lines.{ScriptLine, word_in}
 use Rattle.world_spec.specs.declared.TaskCall.{TaskCall}
 use Rattle.world_spec.specs.declared.TaskCall.TheVariants as TaskCall
 use Rattle.world_spec.specs.declared.TreeCall.{TreeCall}
@@ -35,7 +34,11 @@ path_in word = result_ok (path_of word)
 abbrev pub pid_in : List (List ℕ) → List ℕ → Option Pid
 pid_in names word = if has_name names word then Some (record { 0 = place_of names word }) else None
 
--- what is made of one word, and of two, where each is of its kind
+-- the modes that a word is, where it has no bad letter
+abbrev pub modes_in : List ℕ → Option Modes
+modes_in word = if is_modes word then Some (modes_of word) else None
+
+-- what is made of one word, of two, and of three, where each is of its kind
 abbrev pub of_one : {A C : Type 0} → Option A → (A → C) → Option C
 of_one a make = option_map make a
 
@@ -43,6 +46,11 @@ abbrev pub of_two : {A B C : Type 0} → Option A → Option B → (A → B → 
 of_two None b make = None
 of_two (Some a) None make = None
 of_two (Some a) (Some b) make = Some (make a b)
+
+abbrev pub of_three : {A B C D : Type 0} → Option A → Option B → Option C → (A → B → C → D) → Option D
+of_three None b c make = None
+of_three (Some x) None c make = None
+of_three (Some x) (Some y) c make = of_one c (make x y)
 
 abbrev pub traced : TraceWay → Pid → TaskCall
 traced TraceWay.Read pid = TaskCall.TraceRead pid
@@ -67,26 +75,9 @@ abbrev pub made_call : List (List ℕ) → List (List ℕ) → ScriptLine → Ca
 made_call labels names l (CallVerb.Task verb) = of_one (task_call labels names l verb) (λ call. Call.Task call)
 made_call labels names l (CallVerb.Tree verb) = of_one (tree_call l verb) (λ call. Call.Tree call)
 
--- the fork of a line, where its word has a name
-abbrev pub fork_call : List (List ℕ) → ScriptLine → Option Call
-fork_call names l = of_one (pid_in names (word_in 1 l)) (λ pid. Call.Task (TaskCall.Fork pid))
-
 -- the call on the writing task that a text is, where its file accepts it
 abbrev pub file_call : Result Compiled Refusal → Option TaskCall
 file_call (Ok (Compiled.Rules ops)) = None
 file_call (Ok (Compiled.SelfRules rules)) = Some (TaskCall.SelfRules rules)
 file_call (Ok (Compiled.Relabels list)) = Some (TaskCall.Relabels list)
 file_call (Err fault) = None
-
-abbrev pub call_by : List (List ℕ) → List (List ℕ) → ScriptLine → Option Verb → Option Call
-call_by labels names l None = None
-call_by labels names l (Some Verb.Write) = of_one (file_call (compiled labels (word_in 1 l) l.text.bytes)) (λ call. Call.Task call)
-call_by labels names l (Some Verb.Ask) = None
-call_by labels names l (Some Verb.Wait) = None
-call_by labels names l (Some Verb.Fork) = fork_call names l
-call_by labels names l (Some Verb.Exit) = Some (Call.Task TaskCall.Exit)
-call_by labels names l (Some (Verb.Call verb)) = made_call labels names l verb
-
--- the object call that a line makes, where it makes one
-abbrev pub call_of_line : List (List ℕ) → List (List ℕ) → ScriptLine → Option Call
-call_of_line labels names l = call_by labels names l (verb_in l)

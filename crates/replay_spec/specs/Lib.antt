@@ -1,4 +1,5 @@
 pub mod Calls
+pub mod Acts
 pub mod Replays
 pub mod Plain
 pub mod Laws

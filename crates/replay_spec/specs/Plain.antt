@@ -23,7 +23,7 @@ use Rattle.record_spec.specs.declared.AskedWhat.{AskedWhat}
 use Rattle.record_spec.specs.declared.AskedWhat.TheVariants as AskedWhat
 use Rattle.record_spec.specs.declared.RunRecord.{RunRecord}
 use Rattle.log_spec.specs.Audits.{is_word}
-use Rattle.replay_spec.specs.Calls.{call_of_line}
+use Rattle.replay_spec.specs.Acts.{call_of_line}
 
 -- The names of tasks by pid: each is a name of a task, and none stands twice (the place of a name is its pid).
 pub record IsNameTable (names : List (List ℕ)) : Type 0 where

@@ -1,23 +1,16 @@
 use Rattle.std.specs.Prelude.{ℕ, Bool, List, [], ◌∷◌, ◌++◌, Option, Some, None, Result, Ok, Err, if◌then◌else◌, length, fold, nat_lt}
-use Rattle.smack_base.specs.Modes.{modes_of, is_modes}
-use Rattle.smack_base.specs.declared.modes.Modes.{Modes}
-use Rattle.smack_base.specs.declared.ids.LabelId.{LabelId}
-use Rattle.smack_base.specs.declared.ids.Pid.{Pid}
 use Rattle.smack_base.specs.declared.cap.Cap.TheVariants as Cap
 use Rattle.smack_base.specs.declared.rule_op.RuleOp.{RuleOp}
 use Rattle.rules_spec.specs.declared.Batch.{Batch}
 use Rattle.rules_spec.specs.Rulings.{ruling}
 use Rattle.rules_spec.specs.Cases.{verdict_of_cases}
 use Rattle.rules_spec.specs.Creds.{is_effective}
-use Rattle.text_spec.specs.Names.{id_of}
 use Rattle.file_spec.specs.declared.Refusal.{Refusal}
 use Rattle.file_spec.specs.declared.Refusal.TheVariants as Refusal
 use Rattle.file_spec.specs.declared.Compiled.{Compiled}
 use Rattle.file_spec.specs.declared.Compiled.TheVariants as Compiled
 use Rattle.file_spec.specs.Files.{compiled}
-use Rattle.script_spec.specs.declared.Verb.{Verb}
-use Rattle.script_spec.specs.declared.Verb.TheVariants as Verb
-use Rattle.script_spec.specs.Lines.{ScriptLine, word_in, verb_in, table_of}
+use Rattle.script_spec.specs.Lines.{ScriptLine, word_in, table_of}
 use Rattle.script_spec.specs.Tasks.{task_names}
 use Rattle.world_spec.specs.declared.TaskCall.TheVariants as TaskCall
 use Rattle.world_spec.specs.declared.Call.{Call}
@@ -29,7 +22,9 @@ use Rattle.record_spec.specs.declared.AskedLine.{AskedLine}
 use Rattle.record_spec.specs.declared.AskedWhat.{AskedWhat}
 use Rattle.record_spec.specs.declared.AskedWhat.TheVariants as AskedWhat
 use Rattle.record_spec.specs.declared.RunRecord.{RunRecord}
-use Rattle.replay_spec.specs.Calls.{pid_in, made_call, fork_call}
+use Rattle.replay_spec.specs.declared.Act.{Act}
+use Rattle.replay_spec.specs.declared.Act.TheVariants as Act
+use Rattle.replay_spec.specs.Acts.{act_of_line}
 
 -- what the calls so far have left
 pub record Run : Type 0 where
@@ -99,38 +94,21 @@ written run l (Ok (Compiled.SelfRules rules)) = stepped_by run l (Call.Task (Tas
 written run l (Ok (Compiled.Relabels list)) = stepped_by run l (Call.Task (TaskCall.Relabels list))
 written run l (Err fault) = noted run l (AskedWhat.Refused (word_in 1 l) fault)
 
-abbrev pub modes_in : List ℕ → Option Modes
-modes_in word = if is_modes word then Some (modes_of word) else None
+-- The run after a line that does this, by the labels. A question is answered by the ordered cases in the newest version.
+abbrev pub after_act : List (List ℕ) → Run → ScriptLine → Act → Run
+after_act labels run l Act.Write = written run l (compiled labels (word_in 1 l) l.text.bytes)
+after_act labels run l (Act.Ask s o m) = noted run l (AskedWhat.Ask (verdict_of_cases (ruling run.journal) s o m))
+after_act labels run l (Act.Wait pid) = noted run l (AskedWhat.Wait pid)
+after_act labels run l (Act.Fork pid) = stepped_by run l (Call.Task (TaskCall.Fork pid))
+after_act labels run l (Act.Make call) = stepped_by run l call
 
--- a question is answered by the ordered cases in the newest version
-abbrev pub answered : Run → ScriptLine → Option LabelId → Option LabelId → Option Modes → Run
-answered run l (Some s) (Some o) (Some m) = noted run l (AskedWhat.Ask (verdict_of_cases (ruling run.journal) s o m))
-answered run l (Some s) (Some o) None = run
-answered run l (Some s) None m = run
-answered run l None o m = run
+abbrev pub after_acting : List (List ℕ) → Run → ScriptLine → Option Act → Run
+after_acting labels run l None = run
+after_acting labels run l (Some act) = after_act labels run l act
 
-abbrev pub awaited : Run → ScriptLine → Option Pid → Run
-awaited run l None = run
-awaited run l (Some pid) = noted run l (AskedWhat.Wait pid)
-
-abbrev pub entered : Run → ScriptLine → Option Call → Run
-entered run l None = run
-entered run l (Some call) = stepped_by run l call
-
--- The run after one more call, by the labels and the names of the tasks. A call whose words are not of their kinds
--- leaves it as it was; no script has one.
-abbrev pub after_verb : List (List ℕ) → List (List ℕ) → Run → ScriptLine → Option Verb → Run
-after_verb labels names run l None = run
-after_verb labels names run l (Some Verb.Write) = written run l (compiled labels (word_in 1 l) l.text.bytes)
-after_verb labels names run l (Some Verb.Ask) =
-    answered run l (id_of labels (word_in 1 l)) (id_of labels (word_in 2 l)) (modes_in (word_in 3 l))
-after_verb labels names run l (Some Verb.Wait) = awaited run l (pid_in names (word_in 1 l))
-after_verb labels names run l (Some Verb.Fork) = entered run l (fork_call names l)
-after_verb labels names run l (Some Verb.Exit) = stepped_by run l (Call.Task TaskCall.Exit)
-after_verb labels names run l (Some (Verb.Call verb)) = entered run l (made_call labels names l verb)
-
+-- the run after one more line, by the labels and the names of the tasks
 abbrev pub after_line : List (List ℕ) → List (List ℕ) → Run → ScriptLine → Run
-after_line labels names run l = after_verb labels names run l (verb_in l)
+after_line labels names run l = after_acting labels run l (act_of_line labels names l)
 
 -- the calls of a script in written order
 abbrev pub run_of : List (List ℕ) → List (List ℕ) → List ScriptLine → Run

@@ -4,21 +4,15 @@ use Rattle.std.specs.List.{flat_map}
 use Rattle.std.proofs.lemmas.Bool.{cases_Bool, eqb-true, eqb-false, le-leb, lt-leb, leb-true, leb-false}
 use Rattle.std.proofs.lemmas.List.Sums.{sum_by-append}
 use Rattle.std.proofs.lemmas.Grind.{flat_map-append, fold-append}
-use Rattle.smack_base.specs.declared.modes.Modes.{Modes}
-use Rattle.smack_base.specs.declared.ids.LabelId.{LabelId}
-use Rattle.smack_base.specs.declared.ids.Pid.{Pid}
 use Rattle.smack_base.specs.declared.cap.Cap.TheVariants as Cap
-use Rattle.smack_base.specs.Modes.{is_modes}
 use Rattle.rules_spec.specs.Rulings.{ruling}
 use Rattle.rules_spec.specs.Creds.{is_effective}
-use Rattle.text_spec.specs.Names.{predefined, has_name, id_of, with_name, with_names}
+use Rattle.text_spec.specs.Names.{predefined, has_name, with_name, with_names}
 use Rattle.file_spec.specs.declared.Refusal.{Refusal}
 use Rattle.file_spec.specs.declared.Refusal.TheVariants as Refusal
 use Rattle.file_spec.specs.declared.Compiled.{Compiled}
 use Rattle.file_spec.specs.declared.Compiled.TheVariants as Compiled
 use Rattle.file_spec.specs.Files.{compiled}
-use Rattle.script_spec.specs.declared.Verb.{Verb}
-use Rattle.script_spec.specs.declared.Verb.TheVariants as Verb
 use Rattle.script_spec.specs.Words.{kinds_of}
 use Rattle.script_spec.specs.Lines.{ScriptLine, word_in, label_words, text_labels, labels_by, labels_of, table_of}
 use Rattle.script_spec.specs.Grammar.{parse}
@@ -34,22 +28,17 @@ use Rattle.world_spec.specs.declared.Call.TheVariants as Call
 use Rattle.world_spec.specs.Worlds.{creds_of}
 use Rattle.record_spec.specs.declared.AskedLine.{AskedLine}
 use Rattle.record_spec.specs.declared.AskedWhat.TheVariants as AskedWhat
-use Rattle.replay_spec.specs.Calls.{pid_in, of_one, made_call}
-use Rattle.replay_spec.specs.Replays.{Run, run_first, number_of_task, is_before, with_asked, noted, published, stepped_by, written, answered, awaited, entered, modes_in, after_verb, after_line, run_of}
+use Rattle.replay_spec.specs.declared.Act.{Act}
+use Rattle.replay_spec.specs.declared.Act.TheVariants as Act
+use Rattle.replay_spec.specs.Acts.{act_by, act_of_line}
+use Rattle.replay_spec.specs.Replays.{Run, run_first, number_of_task, is_before, with_asked, noted, published, stepped_by, written, after_act, after_acting, after_line, run_of}
 use Rattle.replay_spec.specs.Plain.{IsNameTable}
 use Rattle.replay_spec.specs.Laws.{EachLineIsRecorded, is_call, lines_of_task, EachCallIsOnce}
 use Rattle.plain_records.proofs.Tables.{HasNames, has_before, has_last, has_names, both_names}
 use Rattle.plain_records.proofs.GoodLines.{IsGoodLine, good_verb, AreGoodLines, good_lines, script_holds}
 use Rattle.plain_records.proofs.Tasks.{names_more, names_behind, names_are_a_table}
 use Rattle.replayed_records.proofs.InStep.{IsInStep, number_is_pid, line_in_step}
-use Rattle.replayed_records.proofs.KnownWords.{IsMade, found_label, call_is_made}
-
-still_some : {A C : Type 0} (a : Option A) (make : A → C) → is_some a ≡ true → is_some (of_one a make) ≡ true
-still_some None make found = cc
-still_some (Some x) make found = refl
-
-found_modes : (word : List ℕ) → is_modes word ≡ true → is_some (modes_in word) ≡ true
-found_modes word are = rw are refl
+use Rattle.replayed_records.proofs.KnownWords.{line_does}
 
 module _ (p : ℕ → ℕ → Bool) where
   -- how many calls of a kind a run has recorded, by task and number
@@ -112,32 +101,18 @@ module _ (p : ℕ → ℕ → Bool) where
   written_more run l (Ok (Compiled.Relabels list)) = stepped_more run l (Call.Task (TaskCall.Relabels list))
   written_more run l (Err fault) = noted_more run l (AskedWhat.Refused (word_in 1 l) fault)
 
-  answered_more : (run : Run) (l : ScriptLine) (s o : Option LabelId) (m : Option Modes) → is_some s ≡ true → is_some o ≡ true → is_some m ≡ true
-      → IsOneMore run l (answered run l s o m)
-  answered_more run l (Some s) (Some o) (Some m) subject object modes = noted_more run l _
-  answered_more run l (Some s) (Some o) None subject object modes = cc
-  answered_more run l (Some s) None m subject object modes = cc
-  answered_more run l None o m subject object modes = cc
+  act_more : (labels : List (List ℕ)) (run : Run) (l : ScriptLine) (act : Act) → IsOneMore run l (after_act labels run l act)
+  act_more labels run l Act.Write = written_more run l (compiled labels (word_in 1 l) l.text.bytes)
+  act_more labels run l (Act.Ask s o m) = noted_more run l _
+  act_more labels run l (Act.Wait pid) = noted_more run l _
+  act_more labels run l (Act.Fork pid) = stepped_more run l (Call.Task (TaskCall.Fork pid))
+  act_more labels run l (Act.Make call) = stepped_more run l call
 
-  awaited_more : (run : Run) (l : ScriptLine) (pid : Option Pid) → is_some pid ≡ true → IsOneMore run l (awaited run l pid)
-  awaited_more run l None found = cc
-  awaited_more run l (Some pid) found = noted_more run l _
-
-  entered_more : (run : Run) (l : ScriptLine) (call : Option Call) → is_some call ≡ true → IsOneMore run l (entered run l call)
-  entered_more run l None found = cc
-  entered_more run l (Some call) found = stepped_more run l call
-
-  -- a call whose words are found leaves one thing in the record
-  pub verb_more : (labels names : List (List ℕ)) (run : Run) (l : ScriptLine) (verb : Verb) → IsMade labels names l verb
-      → IsOneMore run l (after_verb labels names run l (Some verb))
-  verb_more labels names run l Verb.Write made = written_more run l (compiled labels (word_in 1 l) l.text.bytes)
-  verb_more labels names run l Verb.Ask made =
-      answered_more run l (id_of labels (word_in 1 l)) (id_of labels (word_in 2 l)) (modes_in (word_in 3 l))
-      (found_label labels (word_in 1 l) made.0) (found_label labels (word_in 2 l) made.1) (found_modes (word_in 3 l) made.2)
-  verb_more labels names run l Verb.Wait made = awaited_more run l (pid_in names (word_in 1 l)) made
-  verb_more labels names run l Verb.Fork made = entered_more run l _ (still_some (pid_in names (word_in 1 l)) (λ pid. Call.Task (TaskCall.Fork pid)) made)
-  verb_more labels names run l Verb.Exit made = stepped_more run l (Call.Task TaskCall.Exit)
-  verb_more labels names run l (Verb.Call verb) made = entered_more run l (made_call labels names l verb) made
+  -- a line that does something leaves one thing in the record
+  pub acting_more : (labels : List (List ℕ)) (run : Run) (l : ScriptLine) (act : Option Act) → is_some act ≡ true
+      → IsOneMore run l (after_acting labels run l act)
+  acting_more labels run l None does = cc
+  acting_more labels run l (Some act) does = act_more labels run l act
 
 -- the labels of a call are in the table of its script
 call_labels : (above : List ScriptLine) (l : ScriptLine) (more : List ScriptLine) → HasNames (table_of (above ++ l ∷ more)) (labels_of l)
@@ -173,10 +148,10 @@ task_forked above l more =
     subst (λ names. HasNames names (forked_name (change_of l))) (sym whole)
     (all_before (task_names above ++ forked_name (change_of l)) with_more.0 (forked_name (change_of l)) (forked_has (task_names above) (change_of l)))
 
--- the words of a good call are found in the tables of its script
-pub line_is_made : (above : List ScriptLine) (l : ScriptLine) (more : List ScriptLine) (good : IsGoodLine above l)
-    → IsMade (table_of (above ++ l ∷ more)) (task_names (above ++ l ∷ more)) l good.verb
-line_is_made above l more good =
+-- a good call does something, by the tables of its script
+pub good_line_does : (above : List ScriptLine) (l : ScriptLine) (more : List ScriptLine) → IsGoodLine above l
+    → is_some (act_of_line (table_of (above ++ l ∷ more)) (task_names (above ++ l ∷ more)) l) ≡ true
+good_line_does above l more good =
     let labels = table_of (above ++ l ∷ more) in
     let names = task_names (above ++ l ∷ more) in
     let of_verb : HasNames labels (labels_by (Some good.verb) l) =
@@ -187,7 +162,8 @@ line_is_made above l more good =
     subst (λ ws. HasNames labels (label_words (kinds_of good.verb) (drop 1 ws))) good.words words in
     let forked : HasNames names (forked_name (change_by (Some good.verb) l)) =
     subst (λ verb. HasNames names (forked_name (change_by verb l))) (good_verb above l good) (task_forked above l more) in
-    call_is_made labels names above l good.first good.behind good.words (tasks_above above (l ∷ more)) good.verb good.kinds behind good.name good.wait forked
+    subst (λ verb. is_some (act_by labels names l verb) ≡ true) (sym (good_verb above l good))
+    (line_does labels names above l good.first good.behind good.words (tasks_above above (l ∷ more)) good.verb good.kinds behind good.name good.wait forked)
 
 -- A good call of a script, whose run is in step with the calls above it, is recorded once, by its task and its number.
 line_more : (p : ℕ → ℕ → Bool) (above : List ScriptLine) (l : ScriptLine) (more : List ScriptLine) (run : Run) → IsGoodLine above l
@@ -197,8 +173,7 @@ line_more p above l more run good in_step =
     let labels = table_of (above ++ l ∷ more) in
     let names = task_names (above ++ l ∷ more) in
     let one : IsOneMore p run l (after_line labels names run l) =
-    subst (λ verb. IsOneMore p run l (after_verb labels names run l verb)) (sym (good_verb above l good))
-    (verb_more p labels names run l good.verb (line_is_made above l more good)) in
+    acting_more p labels run l (act_of_line labels names l) (good_line_does above l more good) in
     subst (λ (k : ℕ). recorded p (after_line labels names run l) ≡ recorded p run + cond (p k l.seq) 1 0) (number_is_pid above run l good in_step) one
 
 -- so are all the calls of a script

@@ -3,8 +3,6 @@ use Rattle.std.specs.Prelude.{slice_index_or}
 use Rattle.std.proofs.lemmas.Bool.{ne_eqb, eq-eqb, lt-leb, lt-ltb}
 use Rattle.std.proofs.lemmas.List.Folds.{list_any-append}
 use Rattle.std.proofs.Math.Seq.{get_or-append_seam}
-use Rattle.smack_base.specs.declared.modes.Modes.{Modes}
-use Rattle.smack_base.specs.declared.ids.LabelId.{LabelId}
 use Rattle.smack_base.specs.declared.ids.Pid.{Pid}
 use Rattle.smack_base.specs.declared.cap.Cap.TheVariants as Cap
 use Rattle.rules_spec.specs.Rulings.{ruling}
@@ -31,10 +29,13 @@ use Rattle.world_spec.specs.declared.Call.{Call}
 use Rattle.world_spec.specs.declared.Call.TheVariants as Call
 use Rattle.world_spec.specs.Worlds.{TaskRow, task_begun, was_made, is_live, creds_of, with_child, without_life, most_tasks}
 use Rattle.record_spec.specs.declared.AskedWhat.TheVariants as AskedWhat
-use Rattle.replay_spec.specs.Calls.{pid_in, of_one, traced, task_call, tree_call, made_call}
+use Rattle.replay_spec.specs.declared.Act.{Act}
+use Rattle.replay_spec.specs.declared.Act.TheVariants as Act
+use Rattle.replay_spec.specs.Calls.{pid_in, modes_in, of_one, traced, task_call, tree_call, made_call}
+use Rattle.replay_spec.specs.Acts.{act_by}
 use Rattle.replay_spec.specs.Plain.{IsNameTable}
-use Rattle.replay_spec.specs.Replays.{Run, or_none_yet, number_of_task, noted, published, stepped_by, written, answered, awaited, entered, modes_in, after_verb, after_line}
-use Rattle.replay_spec.proofs.ReadCalls.{of_none_holds, of_one_holds, of_two_holds}
+use Rattle.replay_spec.specs.Replays.{Run, or_none_yet, number_of_task, noted, published, stepped_by, written, after_act, after_acting, after_line}
+use Rattle.replay_spec.proofs.ReadCalls.{of_none_holds, of_one_holds, of_two_holds, of_three_holds}
 use Rattle.plain_records.proofs.GoodLines.{IsGoodLine, good_verb}
 use Rattle.plain_records.proofs.Tasks.{names_more, names_behind}
 use Rattle.replayed_records.proofs.Numbers.{AreNumbered, AreKept, IsQuiet, same_exits, exit_numbered, push_numbered, live_numbered, none_made, row_is_live, quiet_kept, exit_done, fork_done}
@@ -68,6 +69,27 @@ pub made_quiet : (labels names : List (List ℕ)) (l : ScriptLine) (verb : CallV
 made_quiet labels names l (CallVerb.Task verb) c is =
     of_one_holds IsQuiet (task_call labels names l verb) (λ t. Call.Task t) c (task_quiet labels names l verb) is
 made_quiet labels names l (CallVerb.Tree verb) c is = of_one_holds IsQuiet (tree_call l verb) (λ t. Call.Tree t) c (λ t told. tt) is
+
+-- nor does what a line of such a verb does
+abbrev IsQuietAct : Act → Type 0
+IsQuietAct Act.Write = Unit {0}
+IsQuietAct (Act.Ask s o m) = Unit {0}
+IsQuietAct (Act.Wait pid) = Unit {0}
+IsQuietAct (Act.Fork pid) = ⊥
+IsQuietAct (Act.Make call) = IsQuiet call
+
+verb_quiet : (labels names : List (List ℕ)) (l : ScriptLine) (verb : Verb) → IsQuietVerb verb → (act : Act)
+    → act_by labels names l (Some verb) ≡ Some act → IsQuietAct act
+verb_quiet labels names l Verb.Write quiet act is = of_none_holds IsQuietAct Act.Write act tt is
+verb_quiet labels names l Verb.Ask quiet act is =
+    of_three_holds IsQuietAct (id_of labels (word_in 1 l)) (id_of labels (word_in 2 l)) (modes_in (word_in 3 l)) (λ s o m. Act.Ask s o m) act
+    (λ s o m subject object modes. tt) is
+verb_quiet labels names l Verb.Wait quiet act is =
+    of_one_holds IsQuietAct (pid_in names (word_in 1 l)) (λ pid. Act.Wait pid) act (λ pid found. tt) is
+verb_quiet labels names l Verb.Fork quiet act is = absurd quiet
+verb_quiet labels names l Verb.Exit quiet act is = absurd quiet
+verb_quiet labels names l (Verb.Call verb) quiet act is =
+    of_one_holds IsQuietAct (made_call labels names l verb) (λ c. Act.Make c) act (made_quiet labels names l verb) is
 
 -- the tasks of a run are in step with the calls so far: as many as were forked, each with its pid as its number, live
 -- until it exits
@@ -116,8 +138,8 @@ later_more above l there later j past =
     omega (arith, ap (λ (t : List (List ℕ)). length t) (names_more above l), length-append (task_names above) (forked_name (change_of l))) in
     other_exit above l j (λ e. omega (arith, e, there, names, past)) ∙ later j (omega (arith, names, past))
 
--- a quiet verb leaves the tasks as they are
-module _ (labels names : List (List ℕ)) (exited : ℕ → Bool) (run : Run) (l : ScriptLine) (are : AreNumbered exited 0 run.world.tasks) where
+-- a quiet act leaves the tasks as they are
+module _ (labels : List (List ℕ)) (exited : ℕ → Bool) (run : Run) (l : ScriptLine) (are : AreNumbered exited 0 run.world.tasks) where
   same : AreKept exited run.world.tasks run.world.tasks
   same = record { numbered = are; many = refl }
 
@@ -134,27 +156,16 @@ module _ (labels names : List (List ℕ)) (exited : ℕ → Bool) (run : Run) (l
   written_kept (Ok (Compiled.Relabels list)) = step_kept (Call.Task (TaskCall.Relabels list)) tt
   written_kept (Err fault) = same
 
-  answered_kept : (s o : Option LabelId) (m : Option Modes) → AreKept exited run.world.tasks (answered run l s o m).world.tasks
-  answered_kept (Some s) (Some o) (Some m) = same
-  answered_kept (Some s) (Some o) None = same
-  answered_kept (Some s) None m = same
-  answered_kept None o m = same
+  act_kept : (act : Act) → IsQuietAct act → AreKept exited run.world.tasks (after_act labels run l act).world.tasks
+  act_kept Act.Write quiet = written_kept (compiled labels (word_in 1 l) l.text.bytes)
+  act_kept (Act.Ask s o m) quiet = same
+  act_kept (Act.Wait pid) quiet = same
+  act_kept (Act.Fork pid) quiet = absurd quiet
+  act_kept (Act.Make call) quiet = step_kept call quiet
 
-  awaited_kept : (pid : Option Pid) → AreKept exited run.world.tasks (awaited run l pid).world.tasks
-  awaited_kept None = same
-  awaited_kept (Some pid) = same
-
-  entered_kept : (call : Option Call) → ((c : Call) → call ≡ Some c → IsQuiet c) → AreKept exited run.world.tasks (entered run l call).world.tasks
-  entered_kept None quiet = same
-  entered_kept (Some c) quiet = step_kept c (quiet c refl)
-
-  pub verb_kept : (verb : Verb) → IsQuietVerb verb → AreKept exited run.world.tasks (after_verb labels names run l (Some verb)).world.tasks
-  verb_kept Verb.Write quiet = written_kept (compiled labels (word_in 1 l) l.text.bytes)
-  verb_kept Verb.Ask quiet = answered_kept (id_of labels (word_in 1 l)) (id_of labels (word_in 2 l)) (modes_in (word_in 3 l))
-  verb_kept Verb.Wait quiet = awaited_kept (pid_in names (word_in 1 l))
-  verb_kept Verb.Fork quiet = absurd quiet
-  verb_kept Verb.Exit quiet = absurd quiet
-  verb_kept (Verb.Call verb) quiet = entered_kept (made_call labels names l verb) (made_quiet labels names l verb)
+  acting_kept : (act : Option Act) → ((a : Act) → act ≡ Some a → IsQuietAct a) → AreKept exited run.world.tasks (after_acting labels run l act).world.tasks
+  acting_kept None quiet = same
+  acting_kept (Some act) quiet = act_kept act (quiet act refl)
 
 quiet_change : (l : ScriptLine) (verb : Verb) → IsQuietVerb verb → (is_exit (change_by (Some verb) l) ≡ false) × (forked_name (change_by (Some verb) l) ≡ [])
 quiet_change l Verb.Write quiet = (refl, refl)
@@ -242,9 +253,9 @@ module _ (labels names : List (List ℕ)) (above : List ScriptLine) (l : ScriptL
 
   forks : (pid : Option Pid) (name : List ℕ) → pid ≡ Some (record { 0 = length (task_names above) }) → is_exit (change_of l) ≡ false
       → forked_name (change_of l) ≡ name ∷ [] → length (task_names above) < most_tasks
-      → IsInStep (above ++ l ∷ []) (entered run l (of_one pid (λ p. Call.Task (TaskCall.Fork p)))).world.tasks
+      → IsInStep (above ++ l ∷ []) (after_acting labels run l (of_one pid (λ p. Act.Fork p))).world.tasks
   forks pid name at none one few =
-      subst (λ p. IsInStep (above ++ l ∷ []) (entered run l (of_one p (λ q. Call.Task (TaskCall.Fork q)))).world.tasks) (sym at)
+      subst (λ p. IsInStep (above ++ l ∷ []) (after_acting labels run l (of_one p (λ q. Act.Fork q))).world.tasks) (sym at)
       (fork_in_step above l run.world.tasks _ name (creds_of run.world number) good.there step none one
       (fork_done run.world (ruling run.journal) number (record { 0 = length (task_names above) }) live new (room few)))
 
@@ -254,13 +265,13 @@ module _ (labels names : List (List ℕ)) (above : List ScriptLine) (l : ScriptL
       (exit_done run.world (ruling run.journal) number live ∙ ap (without_life run.world.tasks) is)
 
   abbrev After : Verb → Type 0
-  After verb = IsInStep (above ++ l ∷ []) (after_verb labels names run l (Some verb)).world.tasks
+  After verb = IsInStep (above ++ l ∷ []) (after_acting labels run l (act_by labels names l (Some verb))).world.tasks
 
   quietly : (verb : Verb) → verb_in l ≡ Some verb → IsQuietVerb verb → After verb
   quietly verb is_verb quiet =
       let change = quiet_change l verb quiet in
       quiet_in_step above l run.world.tasks _ good.there step (ap (λ v. is_exit (change_by v l)) is_verb ∙ change.0)
-      (ap (λ v. forked_name (change_by v l)) is_verb ∙ change.1) (verb_kept labels names (has_exit above) run l step.numbered verb quiet)
+      (ap (λ v. forked_name (change_by v l)) is_verb ∙ change.1) (acting_kept labels (has_exit above) run l step.numbered (act_by labels names l (Some verb)) (verb_quiet labels names l verb quiet))
 
   pub verb_in_step : (verb : Verb) → verb_in l ≡ Some verb → IsNameTable names → (rest : List (List ℕ))
       → names ≡ (task_names above ++ forked_name (change_of l)) ++ rest → After verb
@@ -293,5 +304,5 @@ line_in_step above l more labels run good table step =
     let with_more = names_behind (above ++ l ∷ []) more in
     let whole : names ≡ (task_names above ++ forked_name (change_of l)) ++ with_more.0 =
     ap task_names (sym (append_assoc above (l ∷ []) more)) ∙ with_more.1 ∙ ap (λ ns. ns ++ with_more.0) (names_more above l) in
-    subst (λ verb. IsInStep (above ++ l ∷ []) (after_verb labels names run l verb).world.tasks) (sym (good_verb above l good))
+    subst (λ verb. IsInStep (above ++ l ∷ []) (after_acting labels run l (act_by labels names l verb)).world.tasks) (sym (good_verb above l good))
     (verb_in_step labels names above l run good step good.verb (good_verb above l good) table with_more.0 whole)

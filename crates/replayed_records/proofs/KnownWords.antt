@@ -8,6 +8,7 @@ use Rattle.smack_base.specs.Modes.{is_modes}
 use Rattle.smack_base.specs.Paths.{path_of}
 use Rattle.text_spec.specs.Texts.{Placed}
 use Rattle.text_spec.specs.Names.{place_of, has_name, id_of}
+use Rattle.script_spec.specs.declared.CallVerb.{CallVerb}
 use Rattle.script_spec.specs.declared.CallVerb.TheVariants as CallVerb
 use Rattle.script_spec.specs.declared.Verb.{Verb}
 use Rattle.script_spec.specs.declared.Verb.TheVariants as Verb
@@ -17,20 +18,21 @@ use Rattle.script_spec.specs.declared.TreeVerb.{TreeVerb}
 use Rattle.script_spec.specs.declared.TreeVerb.TheVariants as TreeVerb
 use Rattle.script_spec.specs.declared.WordKind.{WordKind}
 use Rattle.script_spec.specs.declared.WordKind.TheVariants as WordKind
-use Rattle.script_spec.specs.Words.{task_kinds, tree_kinds, kinds_of, cap_of, number_of, signal_of, trace_way_of, word_at}
+use Rattle.script_spec.specs.Words.{task_kinds, tree_kinds, call_kinds, kinds_of, cap_of, number_of, signal_of, trace_way_of, word_at}
 use Rattle.script_spec.specs.Lines.{ScriptLine, word_in, label_words}
 use Rattle.script_spec.specs.Tasks.{TaskChange, Forks, Exits, Awaits, Keeps, forked_name, is_fork, change_by, change_of, parents_in, task_names, tasks_of, pid_of, latest_child, is_pid, is_latest_child}
 use Rattle.script_spec.specs.Causes.{is_task_name_good, is_name_good, is_wait_good}
-use Rattle.replay_spec.specs.Calls.{path_in, pid_in, of_one, of_two, traced, task_call, tree_call, made_call}
+use Rattle.replay_spec.specs.Calls.{path_in, pid_in, modes_in, of_one, of_two, of_three, traced, task_call, tree_call, made_call}
+use Rattle.replay_spec.specs.Acts.{act_by}
 use Rattle.plain_records.proofs.Tables.{HasNames}
 use Rattle.plain_records.proofs.KindsOfWords.{kind_1, kind_2, kind_3}
 use Rattle.plain_records.proofs.GoodLines.{AreOfKinds}
 
 -- a name that a table has is found in it
-pub found_label : (labels : List (List ℕ)) (word : List ℕ) → has_name labels word ≡ true → is_some (id_of labels word) ≡ true
+found_label : (labels : List (List ℕ)) (word : List ℕ) → has_name labels word ≡ true → is_some (id_of labels word) ≡ true
 found_label labels word has = rw has refl
 
-pub found_task : (names : List (List ℕ)) (word : List ℕ) → has_name names word ≡ true → is_some (pid_in names word) ≡ true
+found_task : (names : List (List ℕ)) (word : List ℕ) → has_name names word ≡ true → is_some (pid_in names word) ≡ true
 found_task names word has = rw has refl
 
 -- what is made of words that are each found
@@ -42,6 +44,12 @@ made_of_two : {A B C : Type 0} (a : Option A) (b : Option B) (make : A → B →
 made_of_two None b make found found' = cc
 made_of_two (Some x) None make found found' = cc
 made_of_two (Some x) (Some y) make found found' = refl
+
+made_of_three : {A B C D : Type 0} (a : Option A) (b : Option B) (c : Option C) (make : A → B → C → D) → is_some a ≡ true → is_some b ≡ true
+    → is_some c ≡ true → is_some (of_three a b c make) ≡ true
+made_of_three None b c make found found' last = cc
+made_of_three (Some x) None c make found found' last = cc
+made_of_three (Some x) (Some y) c make found found' last = made_of_one c (make x y) last
 
 found_path : {A F : Type 0} (r : Result A F) → is_ok r ≡ true → is_some (result_ok r) ≡ true
 found_path (Ok x) good = refl
@@ -87,15 +95,8 @@ child_has_name above task name is =
     let below = child_below (tasks_of above).awaited (parents_in above) task (pid_of (tasks_of above) name) is in
     lt-ltb (place_of (task_names above) name) (length (task_names above)) (omega (arith, below, parents_counted above))
 
--- what the words of a call need, so that it leaves something in a record
-abbrev pub IsMade : List (List ℕ) → List (List ℕ) → ScriptLine → Verb → Type 0
-IsMade labels names l Verb.Write = Unit {0}
-IsMade labels names l Verb.Ask =
-    (has_name labels (word_in 1 l) ≡ true) × (has_name labels (word_in 2 l) ≡ true) × (is_modes (word_in 3 l) ≡ true)
-IsMade labels names l Verb.Wait = is_some (pid_in names (word_in 1 l)) ≡ true
-IsMade labels names l Verb.Fork = is_some (pid_in names (word_in 1 l)) ≡ true
-IsMade labels names l Verb.Exit = Unit {0}
-IsMade labels names l (Verb.Call verb) = is_some (made_call labels names l verb) ≡ true
+found_modes : (word : List ℕ) → is_modes word ≡ true → is_some (modes_in word) ≡ true
+found_modes word are = rw are refl
 
 -- the words that stand for labels are known
 label_1 : (labels : List (List ℕ)) (l : ScriptLine) (first : Placed) (ds : List WordKind) (behind : List Placed) → l.words ≡ first ∷ behind
@@ -137,19 +138,23 @@ module _ (labels names : List (List ℕ)) (above : List ScriptLine) (l : ScriptL
       made_of_two (path_in (word_in 1 l)) (number_of (word_in 2 l)) _ (found_path_1 (WordKind.Number ∷ []) kinds)
       (kind_2 l first WordKind.Path WordKind.Number [] behind words kinds).1
 
-  pub call_is_made : (verb : Verb) → AreOfKinds (first ∷ []) (kinds_of verb) behind → HasNames labels (label_words (kinds_of verb) behind)
+  made_call_is_made : (verb : CallVerb) → AreOfKinds (first ∷ []) (call_kinds verb) behind → HasNames labels (label_words (call_kinds verb) behind)
+      → is_name_good (tasks_of above) (Verb.Call verb) behind ≡ true → is_some (made_call labels names l verb) ≡ true
+  made_call_is_made (CallVerb.Task verb) kinds known name = made_of_one (task_call labels names l verb) _ (task_call_is_made verb kinds known name)
+  made_call_is_made (CallVerb.Tree verb) kinds known name = made_of_one (tree_call l verb) _ (tree_call_is_made verb kinds)
+
+  pub line_does : (verb : Verb) → AreOfKinds (first ∷ []) (kinds_of verb) behind → HasNames labels (label_words (kinds_of verb) behind)
       → is_name_good (tasks_of above) verb behind ≡ true → is_wait_good (tasks_of above) l.task verb behind ≡ true
-      → HasNames names (forked_name (change_by (Some verb) l)) → IsMade labels names l verb
-  call_is_made Verb.Write kinds known name wait forked = tt
-  call_is_made Verb.Ask kinds known name wait forked = (
-    label_1 labels l first (WordKind.Label ∷ WordKind.Modes ∷ []) behind words kinds known,
-    label_2 labels l first (WordKind.Modes ∷ []) behind words kinds known,
-    (kind_3 l first WordKind.Label WordKind.Label WordKind.Modes [] behind words kinds).1,
-  )
-  call_is_made Verb.Wait kinds known name wait forked =
-      found_task names (word_in 1 l) (rw words (tasks (word_at 0 behind).bytes (child_has_name above l.task (word_at 0 behind).bytes wait)))
-  call_is_made Verb.Fork kinds known name wait forked = found_task names (word_in 1 l) forked.0
-  call_is_made Verb.Exit kinds known name wait forked = tt
-  call_is_made (Verb.Call (CallVerb.Task verb)) kinds known name wait forked =
-      made_of_one (task_call labels names l verb) _ (task_call_is_made verb kinds known name)
-  call_is_made (Verb.Call (CallVerb.Tree verb)) kinds known name wait forked = made_of_one (tree_call l verb) _ (tree_call_is_made verb kinds)
+      → HasNames names (forked_name (change_by (Some verb) l)) → is_some (act_by labels names l (Some verb)) ≡ true
+  line_does Verb.Write kinds known name wait forked = refl
+  line_does Verb.Ask kinds known name wait forked =
+      made_of_three (id_of labels (word_in 1 l)) (id_of labels (word_in 2 l)) (modes_in (word_in 3 l)) _
+      (found_label labels (word_in 1 l) (label_1 labels l first (WordKind.Label ∷ WordKind.Modes ∷ []) behind words kinds known))
+      (found_label labels (word_in 2 l) (label_2 labels l first (WordKind.Modes ∷ []) behind words kinds known))
+      (found_modes (word_in 3 l) (kind_3 l first WordKind.Label WordKind.Label WordKind.Modes [] behind words kinds).1)
+  line_does Verb.Wait kinds known name wait forked =
+      made_of_one (pid_in names (word_in 1 l)) _
+      (found_task names (word_in 1 l) (rw words (tasks (word_at 0 behind).bytes (child_has_name above l.task (word_at 0 behind).bytes wait))))
+  line_does Verb.Fork kinds known name wait forked = made_of_one (pid_in names (word_in 1 l)) _ (found_task names (word_in 1 l) forked.0)
+  line_does Verb.Exit kinds known name wait forked = refl
+  line_does (Verb.Call verb) kinds known name wait forked = made_of_one (made_call labels names l verb) _ (made_call_is_made verb kinds known name)

@@ -1,2 +1,1 @@
-pub mod LineActs
 pub mod LinePlaces

@@ -3,8 +3,7 @@ ghost use Rattle.std.specs.Str.{bytes_eq};
 ghost use Rattle.script_spec.specs.Grammar.{most_tasks};
 ghost use Rattle.script_text.specs.Lines.{call_seen};
 ghost use Rattle.script_spec.specs.Words.{signal_of as signal_of_word, trace_way_of as way_of_word};
-ghost use Rattle.replay_spec.specs.Replays.{modes_in as modes_of_word};
-ghost use Rattle.replay_spec.specs.Calls.{of_two, traced, path_in as path_of_word, pid_in as pid_of_word, task_call as task_call_of, tree_call as tree_call_of, made_call as made_call_of, fork_call as fork_call_of};
+ghost use Rattle.replay_spec.specs.Calls.{of_two, traced, modes_in as modes_of_word, path_in as path_of_word, pid_in as pid_of_word, task_call as task_call_of, tree_call as tree_call_of, made_call as made_call_of};
 
 use crate::words::words_of;
 use label_table::Labels;
@@ -144,17 +143,6 @@ pub fn made_call(
             Some(call) => Ok(Some(Call::Tree(call))),
             None => Ok(None),
         },
-    }
-}
-
-/// The fork of a line whose word names a task; None where it names none.
-pub fn fork_call(names: &[Bytes], line: &Line<'_>) -> Option<Call>
-    requires { length names.now ≤ most_tasks }
-    ensures { result ≡ fork_call_of names.now (call_seen line.now) }
-{
-    match pid_in(names, words_of(line).one) {
-        Some(pid) => Some(Call::Task(TaskCall::Fork { pid })),
-        None => None,
     }
 }
 

@@ -1,16 +1,20 @@
-//! The words of a script's lines, as calls.
+//! What the lines of a script do.
 //!
-//! `words_of` gives the words behind the verb of a line. `made_call` and `fork_call` give the object
-//! call that these words are, by the labels of the script and the names of its tasks (`names_of`);
-//! `pid_in` and `modes_in` give the pid and the modes that one word is.
+//! `act_of` gives what a line does, by the labels of the script and the names of its tasks
+//! (`names_of`): it writes, asks, waits, forks or makes another object call. `words_of` gives the
+//! words behind the verb of a line, and `pid_in` the pid that a word names.
 //!
-//! Stands on script_text for the lines, and on world_spec for the calls.
+//! Stands on script_text for the lines, on replay_spec for what lines do, and on world_spec for the
+//! calls.
 #![tactic(auto)]
 
+mod acts;
 mod calls;
 mod names;
 mod words;
 
-pub use calls::{fork_call, made_call, modes_in, pid_in};
+pub use acts::act_of;
+pub use calls::pid_in;
 pub use names::names_of;
+pub use replay_spec::Act;
 pub use words::{Words, words_of};

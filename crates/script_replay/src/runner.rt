@@ -1,5 +1,4 @@
 ghost use Rattle.std.specs.Prelude.{◌≡◌, ◌<◌, ◌≤◌, ◌+◌, ◌-◌, ◌^◌, ◌++◌, ◌∷◌, [], Ok, Some, length, map, IfOk, OnOk};
-ghost use Rattle.text_spec.specs.Names.{id_of};
 ghost use Rattle.rules_spec.specs.Creds.{is_effective};
 ghost use Rattle.rules_spec.specs.Rulings.{ruling};
 ghost use Rattle.file_spec.specs.Files.{compiled};
@@ -7,17 +6,16 @@ ghost use Rattle.world_spec.specs.Worlds.{creds_of};
 ghost use Rattle.script_spec.specs.Grammar.{most_tasks};
 ghost use Rattle.script_spec.specs.Lines.{word_in};
 ghost use Rattle.script_text.specs.Lines.{call_seen};
-ghost use Rattle.replay_spec.specs.Calls.{pid_in as pid_of_word, made_call as made_call_of};
-ghost use Rattle.replay_spec.specs.Replays.{modes_in as modes_of_word, number_of_task, noted, after_line, published, written, answered, awaited, entered, stepped_by, run_first};
+ghost use Rattle.replay_spec.specs.Replays.{number_of_task, noted, after_act, after_line, published, written, stepped_by, run_first};
 ghost use Rattle.smack_world.specs.Stepping.{most_entries};
 ghost use Rattle.script_replay.specs.Running.{seen, IsRunning, Runs};
 
 use asked_lines::{AskedByTask, AskedLine, AskedWhat};
 use label_table::Labels;
 use rule_fold::{Batch, Journal, RuleIndex};
-use script_calls::{fork_call, made_call, modes_in, pid_in, words_of};
-use script_text::{CallVerb, Line, Verb, verb_of};
-use smack_base::{Bytes, Cap, LabelId, Modes, Pid, RuleOps};
+use script_calls::{Act, act_of, words_of};
+use script_text::Line;
+use smack_base::{Bytes, Cap, Pid, RuleOps};
 use smack_decide::{cases, effective};
 use smack_world::{Call, Stepped, TaskCall, World};
 use smackfs::{Compiled, Refusal, TextFault, compile};
@@ -149,51 +147,6 @@ impl Runner {
         }
     }
 
-    /// Answers a question in the newest version, where its labels and its modes are there.
-    fn answer(
-        &mut self,
-        line: &Line<'_>,
-        s: Option<LabelId>,
-        o: Option<LabelId>,
-        m: Option<Modes>,
-    ) -> Result<(), AllocError>
-        requires running { IsRunning self.old }
-        ensures { OnOk result (Runs self.old self.new (answered (seen self.old) (call_seen line.now) s o m)) }
-    {
-        let (Some(s), Some(o)) = (s, o) else {
-            return Ok(());
-        };
-        match m {
-            Some(m) => {
-                let verdict = cases(&self.rules, s, o, m);
-                self.note(line, AskedWhat::Ask(verdict))
-            }
-            None => Ok(()),
-        }
-    }
-
-    /// Answers the question of a line, where its words are labels of the table and modes.
-    fn ask(&mut self, labels: &Labels, line: &Line<'_>) -> Result<(), AllocError>
-        requires running { IsRunning self.old }
-        ensures { OnOk result (Runs self.old self.new (answered (seen self.old) (call_seen line.now) (id_of labels.now (word_in 1 (call_seen line.now))) (id_of labels.now (word_in 2 (call_seen line.now))) (modes_of_word (word_in 3 (call_seen line.now))))) }
-    {
-        let words = words_of(line);
-        let m = modes_in(words.three);
-        self.answer(line, labels.id(words.one), labels.id(words.two), m)
-    }
-
-    /// Keeps the line of a wait for a task, where its word names one.
-    fn wait(&mut self, names: &[Bytes], line: &Line<'_>) -> Result<(), AllocError>
-        requires running { IsRunning self.old }
-        requires names { length names.now ≤ most_tasks }
-        ensures { OnOk result (Runs self.old self.new (awaited (seen self.old) (call_seen line.now) (pid_of_word names.now (word_in 1 (call_seen line.now))))) }
-    {
-        match pid_in(names, words_of(line).one) {
-            Some(pid) => self.note(line, AskedWhat::Wait { pid }),
-            None => Ok(()),
-        }
-    }
-
     /// Takes a step of the world in the newest version.
     fn enter(&mut self, alloc: Global, line: &Line<'_>, call: Call) -> Result<(), AllocError>
         requires running { IsRunning self.old }
@@ -208,37 +161,32 @@ impl Runner {
         }
     }
 
-    /// Makes a call of a line, where its words are one.
-    fn make(&mut self, alloc: Global, line: &Line<'_>, call: Option<Call>) -> Result<(), AllocError>
-        requires running { IsRunning self.old }
-        requires room { length self.old.world.trail < most_entries }
-        ensures { OnOk result (Runs self.old self.new (entered (seen self.old) (call_seen line.now) call)) }
-    {
-        match call {
-            Some(call) => self.enter(alloc, line, call),
-            None => Ok(()),
-        }
-    }
-
-    /// Makes the call of a line with a verb of calls.
-    fn call_line(
+    /// Does what a line does, by the labels of its script. A question is answered in the newest version.
+    fn act(
         &mut self,
         alloc: Global,
         labels: &Labels,
-        names: &[Bytes],
         line: &Line<'_>,
-        verb: CallVerb,
+        act: Act,
     ) -> Result<(), AllocError>
+        requires few { length self.old.journal < 2 ^ 32 - 1 }
         requires running { IsRunning self.old }
         requires room { length self.old.world.trail < most_entries }
-        requires names { length names.now ≤ most_tasks }
-        ensures { OnOk result (Runs self.old self.new (entered (seen self.old) (call_seen line.now) (made_call_of labels.now names.now (call_seen line.now) verb))) }
+        ensures { OnOk result (Runs self.old self.new (after_act labels.now (seen self.old) (call_seen line.now) act)) }
     {
-        let call = made_call(alloc, labels, names, line, verb)?;
-        self.make(alloc, line, call)
+        match act {
+            Act::Write => self.write(alloc, labels, line),
+            Act::Ask { s, o, m } => {
+                let verdict = cases(&self.rules, s, o, m);
+                self.note(line, AskedWhat::Ask(verdict))
+            }
+            Act::Wait(pid) => self.note(line, AskedWhat::Wait { pid }),
+            Act::Fork(pid) => self.enter(alloc, line, Call::Task(TaskCall::Fork { pid })),
+            Act::Make(call) => self.enter(alloc, line, call),
+        }
     }
 
-    /// Runs one more call, by the labels of its script and the names of its tasks.
+    /// Runs one more line, by the labels of its script and the names of its tasks.
     pub fn step(
         &mut self,
         alloc: Global,
@@ -252,13 +200,8 @@ impl Runner {
         requires names { length names.now ≤ most_tasks }
         ensures { OnOk result (Runs self.old self.new (after_line labels.now names.now (seen self.old) (call_seen line.now))) }
     {
-        match verb_of(line.verb.bytes) {
-            Some(Verb::Write) => self.write(alloc, labels, line),
-            Some(Verb::Ask) => self.ask(labels, line),
-            Some(Verb::Wait) => self.wait(names, line),
-            Some(Verb::Fork) => self.make(alloc, line, fork_call(names, line)),
-            Some(Verb::Exit) => self.enter(alloc, line, Call::Task(TaskCall::Exit)),
-            Some(Verb::Call(verb)) => self.call_line(alloc, labels, names, line, verb),
+        match act_of(alloc, labels, names, line)? {
+            Some(act) => self.act(alloc, labels, line, act),
             None => Ok(()),
         }
     }

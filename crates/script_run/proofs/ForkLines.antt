@@ -7,7 +7,7 @@ use Rattle.world_spec.specs.declared.Call.TheVariants as Call
 use Rattle.script_spec.specs.Lines.{ScriptLine, table_of}
 use Rattle.script_spec.specs.Tasks.{task_names}
 use Rattle.script_text.specs.Scripts.{AreRead}
-use Rattle.replay_spec.specs.Calls.{call_of_line}
+use Rattle.replay_spec.specs.Acts.{call_of_line}
 use Rattle.replay_spec.specs.Plain.{IsNameTable}
 use Rattle.plain_records.proofs.GoodLines.{IsGoodLine, AreGoodLines, good_lines}
 use Rattle.plain_records.proofs.Tasks.{names_are_a_table}

@@ -16,6 +16,8 @@ use Rattle.script_spec.specs.Lines.{ScriptLine, word_in, verb_in}
 use Rattle.script_text.specs.Lines.{call_seen}
 use Rattle.script_text.specs.declared.line.Line.{Line}
 use Rattle.smack_base.specs.declared.ids.Pid.{Pid}
+use Rattle.replay_spec.specs.declared.Act.TheVariants as Act
+use Rattle.replay_spec.proofs.ReadCalls.{act_words}
 use Rattle.task_runs.specs.Scripts.{lines_by, segment}
 use Rattle.task_runs.specs.Orders.{NoneWaits}
 use Rattle.task_runs.proofs.Segments.{cut}
@@ -148,7 +150,8 @@ none_of_task pid (l ∷ ls) none = elim (cases_Bool (l.task == pid)) [
 module _ (names : List (List ℕ)) (child : Pid) where
   none_of_child : (ls : List ScriptLine) → AreNoWaits ls → NoneWaits names child ls
   none_of_child [] none = tt
-  none_of_child (l ∷ ls) none = (λ labels is. none.0 is.0, none_of_child ls none.1)
+  none_of_child (l ∷ ls) none =
+      (λ labels is. none.0 (act_words labels names l (Act.Wait child) is).0, none_of_child ls none.1)
 
   pub none_from : (pid from first last : ℕ) (ls : List ScriptLine) → from ≤ first → first ≤ last → last ≤ length ls
       → AreNoWaits (drop from (take first ls)) → NoneWaits names child (segment pid first last ls) → NoneWaits names child (segment pid from last ls)

@@ -7,7 +7,6 @@ use Rattle.smack_base.specs.declared.modes.Modes.{Modes}
 use Rattle.rules_spec.specs.declared.Verdict.{Verdict}
 use Rattle.rules_spec.specs.Rulings.{ruling}
 use Rattle.rules_spec.specs.Cases.{verdict_of_cases}
-use Rattle.text_spec.specs.Names.{id_of}
 use Rattle.file_spec.specs.declared.Refusal.{Refusal}
 use Rattle.world_spec.specs.declared.Call.{Call}
 use Rattle.world_spec.specs.declared.Call.TheVariants as Call
@@ -15,14 +14,14 @@ use Rattle.world_spec.specs.declared.TaskCall.TheVariants as TaskCall
 use Rattle.world_spec.specs.declared.Reply.TheVariants as Reply
 use Rattle.record_spec.specs.declared.AskedLine.{AskedLine}
 use Rattle.record_spec.specs.declared.AskedWhat.TheVariants as AskedWhat
-use Rattle.script_spec.specs.declared.Verb.TheVariants as Verb
-use Rattle.script_spec.specs.Lines.{ScriptLine, word_in, verb_in, table_of}
+use Rattle.script_spec.specs.Lines.{ScriptLine, word_in, table_of}
 use Rattle.script_spec.specs.Tasks.{task_names}
-use Rattle.replay_spec.specs.Replays.{modes_in}
-use Rattle.legal_spec.specs.Lines.{IsCallOfLine}
+use Rattle.replay_spec.specs.declared.Act.TheVariants as Act
+use Rattle.replay_spec.specs.Acts.{act_of_line, call_by}
+use Rattle.replay_spec.proofs.ReadCalls.{act_words}
 use Rattle.world_spec.specs.Replies.{child_of}
 use Rattle.smack_kernel.specs.Tasks.{TaskValue, Stays, Calls, Starts, Adopts, Answers, IsSound, LoadsOnce, most_calls}
-use Rattle.smack_kernel.specs.Answers.{is_fork, IsCalled, IsTrailFull, IsSeqFull, IsWritten, IsAsked, IsForked as IsKernelForked}
+use Rattle.smack_kernel.specs.Answers.{IsCalled, IsTrailFull, IsSeqFull, IsWritten, IsAsked, IsForked as IsKernelForked}
 use Rattle.smack_kernel.specs.declared.turns.Entered.{Entered}
 use Rattle.smack_kernel.specs.declared.kernel.Called.{Called}
 use Rattle.smack_kernel.specs.declared.kernel.Called.TheVariants as Called
@@ -33,6 +32,7 @@ use Rattle.smack_kernel.specs.declared.kernel.Asked.TheVariants as Asked
 use Rattle.task_runs.specs.Scripts.{Scripted, scripted, ForksTask, lines_by, segment}
 use Rattle.task_runs.specs.Runs.{Ran}
 use Rattle.task_runs.specs.Meetings.{MeetAt, Met}
+use Rattle.task_runs.proofs.Acts.{make_forks_nothing}
 use Rattle.task_runs.proofs.Runs.{stopped, ran_then}
 use Rattle.task_runs.proofs.Calls.{line_of, went_entry, ran_entry, ran_batch, ran_stopped, ran_unchanged, stays_self}
 use Rattle.task_runs.proofs.Lines.{ran_asked, ran_refused, ran_written}
@@ -93,11 +93,11 @@ forked_none v w pid (Called.TrailFull back) stop top f = inl f.0.1
 forked_none v w pid (Called.SeqFull back) stop top f = inl (subst (λ (u : TaskValue). Stays v u) (sym f.0.1) (stays_self v top))
 
 module _ (s : Scripted) (l : ScriptLine) (ls : List ScriptLine) (v w : TaskValue) (x y : List AskedLine) where
-  pub called_entry : (call : Call) (f : Called) (r : Entered) → IsCallOfLine s.labels s.names l call → is_fork call ≡ false
+  pub called_entry : (call : Call) (f : Called) (r : Entered) → act_of_line s.labels s.names l ≡ Some (Act.Make call)
       → f ≡ Called.Entry r → IsCalled v w call f → LoadsOnce v w → Ran false s (l ∷ ls) ls v w x x
-  called_entry call f r line plain e h once =
+  called_entry call f r does e h once =
       let h' : (v.made < most_calls) × Calls v w call r = subst (IsCalled v w call) e h in
-      ran_entry s l ls v w x call r line plain h'.1 once
+      ran_entry s l ls v w x call r (ap (call_by s.labels l) does) (make_forks_nothing s.labels s.names l call does) h'.1 once
 
   pub called_full : (call back : Call) (f : Called) → f ≡ Called.TrailFull back → IsCalled v w call f → Ran true s (l ∷ ls) ls v w x y
   called_full call back f e h =
@@ -110,22 +110,22 @@ module _ (s : Scripted) (l : ScriptLine) (ls : List ScriptLine) (v w : TaskValue
       let h' : IsSeqFull v w × (back ≡ call) = subst (IsCalled v w call) e h in
       ran_unchanged s (l ∷ ls) ls v w x y top h'.0.1
 
-  module _ (file : List ℕ) (f : Written) (named : file ≡ word_in 1 l) (verb : verb_in l ≡ Some Verb.Write)
+  module _ (file : List ℕ) (f : Written) (named : file ≡ word_in 1 l) (does : act_of_line s.labels s.names l ≡ Some Act.Write)
       (top : v.version ≤ length v.journal) (h : IsWritten s.labels v w file l.text.bytes f) where
     is_written : (g : Written) → f ≡ g → IsWritten s.labels v w (word_in 1 l) l.text.bytes g
     is_written g e = subst (λ (z : List ℕ × Written). IsWritten s.labels v w z.0 l.text.bytes z.1) (λ i. (named i, e i)) h
 
     pub written_batch : (version : ℕ) → IsSound v → f ≡ Written.Batch version → LoadsOnce v w → Ran false s (l ∷ ls) ls v w x x
     written_batch version sound e once = let h' = is_written (Written.Batch version) e in
-        ran_batch s l ls v w x h'.1.0 version top sound (verb, h'.1.1) h'.1.2 once
+        ran_batch s l ls v w x h'.1.0 version top sound (act_words s.labels s.names l Act.Write does, h'.1.1) h'.1.2 once
 
     pub written_entry : (r : Entered) → f ≡ Written.Entry r → LoadsOnce v w → Ran false s (l ∷ ls) ls v w x x
-    written_entry r e once = let h' = is_written (Written.Entry r) e in ran_written s l ls v w x h'.1.0 r verb h'.1.1 h'.1.2 once
+    written_entry r e once = let h' = is_written (Written.Entry r) e in ran_written s l ls v w x h'.1.0 r does h'.1.1 h'.1.2 once
 
     pub written_refused : (b : Bool) (version : ℕ) (fault : Refusal) → IsSound v → f ≡ Written.Refused version fault
         → OnFalse b (y ≡ x ++ line_of v version (AskedWhat.Refused (word_in 1 l) fault) ∷ []) → LoadsOnce v w → Ran b s (l ∷ ls) ls v w x y
     written_refused b version fault sound e more once =
-        ran_refused s l ls v w x y once b version fault verb top sound (is_written (Written.Refused version fault) e).1 more
+        ran_refused s l ls v w x y once b version fault does top sound (is_written (Written.Refused version fault) e).1 more
 
     pub written_full : f ≡ Written.TrailFull → Ran true s (l ∷ ls) ls v w x y
     written_full e = ran_stopped s (l ∷ ls) ls v w x y (is_written Written.TrailFull e).0.1
@@ -134,13 +134,12 @@ module _ (s : Scripted) (l : ScriptLine) (ls : List ScriptLine) (v w : TaskValue
     written_seq e = ran_unchanged s (l ∷ ls) ls v w x y top (is_written Written.SeqFull e).1
 
   pub asked_verdict : (subject object : LabelId) (m : Modes) (f : Asked) (b : Bool) (version : ℕ) (verdict : Verdict)
-      → verb_in l ≡ Some Verb.Ask → id_of s.labels (word_in 1 l) ≡ Some subject → id_of s.labels (word_in 2 l) ≡ Some object
-      → modes_in (word_in 3 l) ≡ Some m → f ≡ Asked.Verdict version verdict → IsAsked v w subject object m f
+      → act_of_line s.labels s.names l ≡ Some (Act.Ask subject object m) → f ≡ Asked.Verdict version verdict → IsAsked v w subject object m f
       → OnFalse b (y ≡ x ++ line_of v version (AskedWhat.Ask verdict) ∷ []) → LoadsOnce v w → Ran b s (l ∷ ls) ls v w x y
-  asked_verdict subject object m f b version verdict verb su ob mo e h more once =
+  asked_verdict subject object m f b version verdict does e h more once =
       let h' : (v.made < most_calls) × Answers v w version × (verdict ≡ verdict_of_cases (ruling w.journal) subject object m) =
       subst (IsAsked v w subject object m) e h in
-      ran_asked s l ls v w x y once b version subject object m verdict verb su ob mo h'.1 h'.2 more
+      ran_asked s l ls v w x y once b version subject object m verdict does h'.1 h'.2 more
 
   pub asked_seq : (subject object : LabelId) (m : Modes) (f : Asked) → v.version ≤ length v.journal → f ≡ Asked.SeqFull
       → IsAsked v w subject object m f → Ran true s (l ∷ ls) ls v w x y

@@ -1,19 +1,17 @@
 ghost use Rattle.std.specs.Prelude.{◌≡◌, ◌≤◌, ◌<◌, ◌+◌, [], ◌∷◌, ◌++◌, ℕ, List, length, Some, is_some, IfSome};
 ghost use Rattle.std.specs.Bool.{OnFalse};
 ghost use Rattle.smack_base.specs.declared.ids.Pid.{Pid};
-ghost use Rattle.script_spec.specs.Lines.{ScriptLine, word_in, verb_in};
-ghost use Rattle.script_spec.specs.declared.Verb.TheVariants as Verb;
+ghost use Rattle.script_spec.specs.Lines.{ScriptLine, word_in};
 ghost use Rattle.script_text.specs.Lines.{call_seen};
+ghost use Rattle.replay_spec.specs.Acts.{act_of_line};
 ghost use Rattle.smack_kernel.specs.Tasks.{most_calls};
 ghost use Rattle.task_runs.specs.Runs.{Ran};
-ghost use Rattle.script_acts.specs.Acts.{IsAct};
 ghost use Rattle.script_run.specs.Stages.{script_of};
 ghost use Rattle.script_run.specs.Stops.{IsCause};
 
 use crate::stage::{ScriptLines, Stage};
 use asked_lines::{AskedBlocks, AskedLine, AskedWhat};
-use script_acts::Act;
-use script_calls::words_of;
+use script_calls::{Act, words_of};
 use script_text::Line;
 use smack_base::{Bytes, LabelId, Modes};
 use smack_kernel::{Asked, Called, Task, Written};
@@ -60,7 +58,7 @@ fn ask_line<S: ScriptLines>(
 ) -> Option<Stop>
     requires table { task.old.table ≡ stage.kernel.now.table }
     requires top { task.old.version ≤ length task.old.journal }
-    requires act { IsAct stage.kernel.now.labels stage.names.now (call_seen line.now) (Act.Ask question.0 question.1 question.2) }
+    requires act { act_of_line stage.kernel.now.labels stage.names.now (call_seen line.now) ≡ Some (Act.Ask question.0 question.1 question.2) }
     ensures ran { (ls : List ScriptLine) → Ran (is_some result) (script_of S.told stage.entry) (call_seen line.now ∷ ls) ls task.old task.new asked.old asked.new }
     ensures cause { (ls : List ScriptLine) → IfSome result (IsCause (script_of S.told stage.entry) (call_seen line.now ∷ ls) task.old task.new) }
 {
@@ -119,7 +117,7 @@ fn write_line<R: Wait, S: ScriptLines>(
 ) -> Option<Stop>
     requires table { task.old.table ≡ stage.kernel.now.table }
     requires top { task.old.version ≤ length task.old.journal }
-    requires act { verb_in (call_seen line.now) ≡ Some Verb.Write }
+    requires act { act_of_line stage.kernel.now.labels stage.names.now (call_seen line.now) ≡ Some Act.Write }
     ensures ran { (ls : List ScriptLine) → Ran (is_some result) (script_of S.told stage.entry) (call_seen line.now ∷ ls) ls task.old task.new asked.old asked.new }
     ensures cause { (ls : List ScriptLine) → IfSome result (IsCause (script_of S.told stage.entry) (call_seen line.now ∷ ls) task.old task.new) }
 {
@@ -150,7 +148,7 @@ fn make_line<R: Wait, S: ScriptLines>(
 ) -> Option<Stop>
     requires table { task.old.table ≡ stage.kernel.now.table }
     requires top { task.old.version ≤ length task.old.journal }
-    requires act { IsAct stage.kernel.now.labels stage.names.now (call_seen line.now) (Act.Make call) }
+    requires act { act_of_line stage.kernel.now.labels stage.names.now (call_seen line.now) ≡ Some (Act.Make call) }
     ensures ran { (ls : List ScriptLine) → Ran (is_some result) (script_of S.told stage.entry) (call_seen line.now ∷ ls) ls task.old task.new asked.old asked.new }
     ensures cause { (ls : List ScriptLine) → IfSome result (IsCause (script_of S.told stage.entry) (call_seen line.now ∷ ls) task.old task.new) }
 {
@@ -174,7 +172,7 @@ pub fn plain_line<R: Wait, S: ScriptLines>(
 ) -> Option<Stop>
     requires table { task.old.table ≡ stage.kernel.now.table }
     requires top { task.old.version ≤ length task.old.journal }
-    requires act { IsAct stage.kernel.now.labels stage.names.now (call_seen line.now) act }
+    requires act { act_of_line stage.kernel.now.labels stage.names.now (call_seen line.now) ≡ Some act }
     requires plain { (pid : Pid) → act ≡ Act.Fork pid → ⊥ }
     ensures ran { (ls : List ScriptLine) → Ran (is_some result) (script_of S.told stage.entry) (call_seen line.now ∷ ls) ls task.old task.new asked.old asked.new }
     ensures cause { (ls : List ScriptLine) → IfSome result (IsCause (script_of S.told stage.entry) (call_seen line.now ∷ ls) task.old task.new) }

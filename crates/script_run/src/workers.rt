@@ -3,12 +3,12 @@ ghost use Rattle.std.specs.Bool.{OnFalse};
 ghost use Rattle.script_spec.specs.Grammar.{most_tasks};
 ghost use Rattle.script_spec.specs.Lines.{ScriptLine, table_of};
 ghost use Rattle.script_text.specs.Lines.{call_seen};
+ghost use Rattle.replay_spec.specs.Acts.{act_of_line};
 ghost use Rattle.legal_spec.specs.Calls.{Stands};
 ghost use Rattle.task_runs.specs.Scripts.{scripted, ForksTask, ForksFirst, segment, lines_by};
 ghost use Rattle.task_runs.specs.Runs.{Ran};
 ghost use Rattle.task_runs.specs.Meetings.{Met};
 ghost use Rattle.task_runs.specs.Orders.{IsOrderly};
-ghost use Rattle.script_acts.specs.Acts.{IsAct};
 ghost use Rattle.script_run.specs.Shared.{script_in};
 ghost use Rattle.script_run.specs.Stages.{script_of, IsForked, IsAwaited};
 ghost use Rattle.script_run.specs.Stops.{IsCause, IsForkCause, IsOwnStop, IsMeetCause, without_child};
@@ -17,8 +17,7 @@ use crate::making::{Stop, note, plain_line};
 use crate::stage::{PlacedLines, ScriptLines, Stage, count, next_line, wait_place};
 use asked_lines::{AskedBlocks, AskedLine, AskedWhat};
 use outside::Gate;
-use script_acts::{Act, act_of};
-use script_calls::names_of;
+use script_calls::{Act, act_of, names_of};
 use script_text::{Line, Script};
 use smack_base::{Bytes, Pid};
 use smack_kernel::{Called, Kernel, Task};
@@ -171,7 +170,7 @@ fn plain_step<R: Wait, S: ScriptLines>(
 ) -> Reached
     requires table { task.table ≡ stage.kernel.now.table }
     requires top { task.version ≤ length task.journal }
-    requires act { IsAct stage.kernel.now.labels stage.names.now (call_seen line.now) act }
+    requires act { act_of_line stage.kernel.now.labels stage.names.now (call_seen line.now) ≡ Some act }
     requires plain { (pid : Pid) → act ≡ Act.Fork pid → ⊥ }
     ensures ran { (ls : List ScriptLine) → Ran (is_some result.worked.stop) (script_of S.told stage.entry) (call_seen line.now ∷ ls) ls task result.worked.task asked result.worked.asked }
     ensures cause { (ls : List ScriptLine) → IfSome result.worked.stop (IsCause (script_of S.told stage.entry) (call_seen line.now ∷ ls) task result.worked.task) }

@@ -1,3 +1,4 @@
+pub mod Acts
 pub mod Growing
 pub mod Runs
 pub mod Calls

@@ -10,7 +10,6 @@ use Rattle.rules_spec.specs.declared.Verdict.{Verdict}
 use Rattle.rules_spec.specs.Rulings.{ruling}
 use Rattle.rules_spec.specs.Cases.{verdict_of_cases}
 use Rattle.rules_spec.specs.Creds.{is_effective}
-use Rattle.text_spec.specs.Names.{id_of}
 use Rattle.file_spec.specs.declared.Refusal.{Refusal}
 use Rattle.file_spec.specs.declared.Refusal.TheVariants as Refusal
 use Rattle.file_spec.specs.declared.Compiled.{Compiled}
@@ -19,12 +18,13 @@ use Rattle.file_spec.specs.Files.{compiled}
 use Rattle.world_spec.specs.declared.Call.{Call}
 use Rattle.world_spec.specs.declared.Call.TheVariants as Call
 use Rattle.world_spec.specs.Replays.{version_of}
-use Rattle.script_spec.specs.declared.Verb.TheVariants as Verb
-use Rattle.script_spec.specs.Lines.{ScriptLine, word_in, verb_in}
+use Rattle.script_spec.specs.Lines.{ScriptLine, word_in}
 use Rattle.record_spec.specs.declared.AskedLine.{AskedLine}
 use Rattle.record_spec.specs.declared.AskedWhat.TheVariants as AskedWhat
-use Rattle.replay_spec.specs.Calls.{call_by, file_call, of_one}
-use Rattle.replay_spec.specs.Replays.{modes_in}
+use Rattle.replay_spec.specs.declared.Act.TheVariants as Act
+use Rattle.replay_spec.specs.Calls.{file_call, of_one}
+use Rattle.replay_spec.specs.Acts.{act_of_line, call_by}
+use Rattle.replay_spec.proofs.ReadCalls.{act_words}
 use Rattle.legal_spec.specs.Legal.{rows_of}
 use Rattle.legal_spec.specs.Lines.{IsAskedOfLine}
 use Rattle.live_table.specs.Batches.{words_of, rows_of as rows_in}
@@ -52,13 +52,13 @@ whole_version j n e = take_all n j (omega (arith, e))
 
 module _ (s : Scripted) (l : ScriptLine) (ls : List ScriptLine) (v w : TaskValue) (x y : List AskedLine) (once : LoadsOnce v w) where
   -- a question was answered
-  pub ran_asked : (b : Bool) (version : ℕ) (subject object : LabelId) (m : Modes) (verdict : Verdict) → verb_in l ≡ Some Verb.Ask
-      → id_of s.labels (word_in 1 l) ≡ Some subject → id_of s.labels (word_in 2 l) ≡ Some object → modes_in (word_in 3 l) ≡ Some m
+  pub ran_asked : (b : Bool) (version : ℕ) (subject object : LabelId) (m : Modes) (verdict : Verdict)
+      → act_of_line s.labels s.names l ≡ Some (Act.Ask subject object m)
       → Answers v w version → verdict ≡ verdict_of_cases (ruling w.journal) subject object m
       → OnFalse b (y ≡ x ++ line_of v version (AskedWhat.Ask verdict) ∷ []) → Ran b s (l ∷ ls) ls v w x y
-  ran_asked b version subject object m verdict verb su ob mo a is more =
+  ran_asked b version subject object m verdict does a is more =
       ran_answer b s l ls v w x y version (AskedWhat.Ask verdict) a.does a.made a.now
-      (subst (λ (d : Verdict). IsAskedOfLine s.labels s.names l (AskedWhat.Ask d)) (sym is) (verb, su, ob, mo)) tt
+      (subst (λ (d : Verdict). IsAskedOfLine s.labels s.names l (AskedWhat.Ask d)) (sym is) does) tt
       (subst (λ (d : Verdict). d ≡ verdict_of_cases (version_of w.journal version) d.subject d.object d.modes) (sym is)
       (ap (λ (j : List Batch). verdict_of_cases (ruling j) subject object m) (sym (whole_version w.journal version (a.now ∙ a.whole)))))
       more once
@@ -78,21 +78,21 @@ module _ (s : Scripted) (l : ScriptLine) (ls : List ScriptLine) (v w : TaskValue
       (t.1 ∙ sym (ap (λ (u : TaskValue). u.version) t.0)) line tt answer more once
 
   -- a text was refused
-  pub ran_refused : (b : Bool) (version : ℕ) (fault : Refusal) → verb_in l ≡ Some Verb.Write → v.version ≤ length v.journal → IsSound v
+  pub ran_refused : (b : Bool) (version : ℕ) (fault : Refusal) → act_of_line s.labels s.names l ≡ Some Act.Write → v.version ≤ length v.journal → IsSound v
       → IsRefused s.labels v w (word_in 1 l) l.text.bytes version fault → Refuses b version fault → Ran b s (l ∷ ls) ls v w x y
-  ran_refused b version Refusal.NoSuchFile verb top sound r more = text_refused b version Refusal.NoSuchFile top r.1 (verb, refl, r.0) tt more
-  ran_refused b version Refusal.TooLong verb top sound r more = text_refused b version Refusal.TooLong top r.1 (verb, refl, r.0) tt more
-  ran_refused b version (Refusal.BadLine bad) verb top sound r more = text_refused b version (Refusal.BadLine bad) top r.1 (verb, refl, r.0) tt more
-  ran_refused b version (Refusal.UnknownLabel n) verb top sound r more = text_refused b version (Refusal.UnknownLabel n) top r.1 (verb, refl, r.0) tt more
-  ran_refused b version Refusal.NotPrivileged verb top sound r more =
+  ran_refused b version Refusal.NoSuchFile does top sound r more = text_refused b version Refusal.NoSuchFile top r.1 (act_words s.labels s.names l Act.Write does, refl, r.0) tt more
+  ran_refused b version Refusal.TooLong does top sound r more = text_refused b version Refusal.TooLong top r.1 (act_words s.labels s.names l Act.Write does, refl, r.0) tt more
+  ran_refused b version (Refusal.BadLine bad) does top sound r more = text_refused b version (Refusal.BadLine bad) top r.1 (act_words s.labels s.names l Act.Write does, refl, r.0) tt more
+  ran_refused b version (Refusal.UnknownLabel n) does top sound r more = text_refused b version (Refusal.UnknownLabel n) top r.1 (act_words s.labels s.names l Act.Write does, refl, r.0) tt more
+  ran_refused b version Refusal.NotPrivileged does top sound r more =
       let a = r.2 in
       let g = a.does.grows in
       let sees = sees_before v w g.journal g.history sound in
-      ran_answer b s l ls v w x y version (AskedWhat.Refused (word_in 1 l) Refusal.NotPrivileged) a.does a.made a.now (verb, refl, (r.0, r.1)) tt
+      ran_answer b s l ls v w x y version (AskedWhat.Refused (word_in 1 l) Refusal.NotPrivileged) a.does a.made a.now (act_words s.labels s.names l Act.Write does, refl, (r.0, r.1)) tt
       (sees.0, (λ i. is_effective (sees.1 i) Cap.MacAdmin (ruling (whole_version w.journal version (a.now ∙ a.whole) i))) ∙ r.3) more once
-  ran_refused b version (Refusal.JournalFull rows) verb top sound r more =
+  ran_refused b version (Refusal.JournalFull rows) does top sound r more =
       let a = r.2 in
-      ran_answer b s l ls v w x y version (AskedWhat.Refused (word_in 1 l) (Refusal.JournalFull rows)) a.does a.made a.now (verb, refl, (r.0, r.1, r.5)) tt
+      ran_answer b s l ls v w x y version (AskedWhat.Refused (word_in 1 l) (Refusal.JournalFull rows)) a.does a.made a.now (act_words s.labels s.names l Act.Write does, refl, (r.0, r.1, r.5)) tt
       (r.4 ∙ (rows_count w.journal ∙ ap rows_of (sym (whole_version w.journal version (a.now ∙ a.whole))))) more once
 
 same_call : (c : Result Compiled Refusal) → written_call c ≡ of_one (file_call c) (λ call. Call.Task call)
@@ -116,8 +116,8 @@ plain_call c call e = ap is_fork_in (sym e) ∙ none_forks c
 
 -- a text that became an object call
 pub ran_written : (s : Scripted) (l : ScriptLine) (ls : List ScriptLine) (v w : TaskValue) (x : List AskedLine) (call : Call) (r : Entered)
-    → verb_in l ≡ Some Verb.Write → written_call (compiled s.labels (word_in 1 l) l.text.bytes) ≡ Some call → Calls v w call r
+    → act_of_line s.labels s.names l ≡ Some Act.Write → written_call (compiled s.labels (word_in 1 l) l.text.bytes) ≡ Some call → Calls v w call r
     → LoadsOnce v w → Ran false s (l ∷ ls) ls v w x x
-ran_written s l ls v w x call r verb is c once = ran_entry s l ls v w x call r
-    (ap (call_by s.labels s.names l) verb ∙ (sym (same_call (compiled s.labels (word_in 1 l) l.text.bytes)) ∙ is))
+ran_written s l ls v w x call r does is c once = ran_entry s l ls v w x call r
+    (ap (call_by s.labels l) does ∙ (sym (same_call (compiled s.labels (word_in 1 l) l.text.bytes)) ∙ is))
     (plain_call (compiled s.labels (word_in 1 l) l.text.bytes) call is) c once

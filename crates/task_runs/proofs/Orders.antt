@@ -8,7 +8,10 @@ use Rattle.script_spec.specs.declared.Verb.{Verb}
 use Rattle.script_spec.specs.declared.Verb.TheVariants as Verb
 use Rattle.script_spec.specs.Lines.{ScriptLine, word_in, verb_in}
 use Rattle.script_spec.specs.Tasks.{change_by, change_of}
-use Rattle.replay_spec.specs.Calls.{pid_in}
+use Rattle.replay_spec.specs.declared.Act.TheVariants as Act
+use Rattle.replay_spec.specs.Calls.{pid_in, of_one}
+use Rattle.replay_spec.specs.Acts.{act_by, act_of_line}
+use Rattle.replay_spec.proofs.ReadCalls.{act_words}
 use Rattle.task_runs.specs.Scripts.{Scripted, WaitsFor}
 use Rattle.task_runs.specs.Orders.{with_open, without_open, open_after, IsOrderlyBehind, IsOrderly, NoneWaits}
 
@@ -77,7 +80,7 @@ module _ (names : List (List ℕ)) (c : ℕ) (P : Option (List ℕ) → Type 0) 
       }
       by false e p = absurd (some p)
 
-  one_line : (X : List ℕ) → IsNew c X → (l : ScriptLine) → ((labels : List (List ℕ)) → (verb_in l ≡ Some Verb.Wait) × (pid_in names (word_in 1 l) ≡ Some (record { 0 = c })) → ⊥)
+  one_line : (X : List ℕ) → IsNew c X → (l : ScriptLine) → ((labels : List (List ℕ)) → act_of_line labels names l ≡ Some (Act.Wait (record { 0 = c })) → ⊥)
       → IsAbove (open_after names X (change_of l)) (open_after names (X ++ c ∷ []) (change_of l))
   one_line X new l not_so = by (verb_in l) refl
     where
@@ -86,7 +89,8 @@ module _ (names : List (List ℕ)) (c : ℕ) (P : Option (List ℕ) → Type 0) 
       by None e = kept X new
       by (Some Verb.Write) e = kept X new
       by (Some Verb.Ask) e = kept X new
-      by (Some Verb.Wait) e = waited X new (pid_in names (word_in 1 l)) (λ is. not_so [] (e, is))
+      by (Some Verb.Wait) e = waited X new (pid_in names (word_in 1 l)) 
+          (λ is. not_so [] (ap (act_by [] names l) e ∙ ap (λ p. of_one p (λ x. Act.Wait x)) is))
       by (Some Verb.Fork) e = forked X new (pid_in names (word_in 1 l))
       by (Some Verb.Exit) e = kept X new
       by (Some (Verb.Call verb)) e = kept X new
@@ -103,8 +107,9 @@ module _ (s : Scripted) (child : Pid) where
   awaited : (X : List ℕ) (l : ScriptLine) (rest : List ScriptLine) → IsNew child.0 X → WaitsFor s l child.0
       → IsOrderlyBehind s (Some (X ++ child.0 ∷ [])) (l ∷ rest) → IsOrderlyBehind s (Some []) rest
   awaited X l rest new waits is =
-      by X new (subst (λ found. IsOrderlyBehind s (without_open (X ++ child.0 ∷ []) found) rest) waits.1
-      (subst (λ verb. IsOrderlyBehind s (open_after s.names (X ++ child.0 ∷ []) (change_by verb l)) rest) waits.0 is.1))
+      let words = act_words s.labels s.names l (Act.Wait child) waits in
+      by X new (subst (λ found. IsOrderlyBehind s (without_open (X ++ child.0 ∷ []) found) rest) words.1
+      (subst (λ verb. IsOrderlyBehind s (open_after s.names (X ++ child.0 ∷ []) (change_by verb l)) rest) words.0 is.1))
     where
       by : (X : List ℕ) → IsNew child.0 X → IsOrderlyBehind s (without_open (X ++ child.0 ∷ []) (Some child)) rest
           → IsOrderlyBehind s (Some []) rest

@@ -1,32 +1,18 @@
-use Rattle.std.specs.Prelude.{◌≡◌, ℕ, ◌==◌, ◌&&◌, Bool, true, false, if◌then◌else◌, List, [], ◌∷◌, Option, Some, None, is_some}
+use Rattle.std.specs.Prelude.{◌≡◌, ℕ, ◌==◌, Bool, true, if◌then◌else◌, List, [], ◌∷◌, Option, Some, None, is_some}
 use Rattle.std.specs.List.{list_any}
 use Rattle.smack_base.specs.declared.ids.Pid.{Pid}
-use Rattle.text_spec.specs.Names.{id_of}
-use Rattle.script_spec.specs.declared.Verb.{Verb}
-use Rattle.script_spec.specs.declared.Verb.TheVariants as Verb
-use Rattle.script_spec.specs.Lines.{ScriptLine, word_in, verb_in}
+use Rattle.script_spec.specs.Lines.{ScriptLine}
 use Rattle.script_spec.specs.Tasks.{TaskChange, Forks, Exits, Awaits, Keeps, change_of}
 use Rattle.record_spec.specs.declared.AskedWhat.TheVariants as AskedWhat
-use Rattle.replay_spec.specs.Calls.{pid_in, made_call}
-use Rattle.replay_spec.specs.Replays.{modes_in}
+use Rattle.replay_spec.specs.Calls.{pid_in}
+use Rattle.replay_spec.specs.Acts.{act_of_line}
 use Rattle.legal_spec.specs.Lines.{IsAskedOfLine}
 use Rattle.task_runs.specs.Scripts.{Scripted, lines_by}
 
--- The words of a line with this verb are of their kinds, its labels are in the table, and the tasks that it names have
--- names. Of a write its words do not matter: it is refused where they are wrong.
-abbrev pub knows_words : List (List ℕ) → List (List ℕ) → ScriptLine → Option Verb → Bool
-knows_words labels names l None = false
-knows_words labels names l (Some Verb.Write) = true
-knows_words labels names l (Some Verb.Ask) =
-    is_some (id_of labels (word_in 1 l)) && (is_some (id_of labels (word_in 2 l)) && is_some (modes_in (word_in 3 l)))
-knows_words labels names l (Some Verb.Wait) = is_some (pid_in names (word_in 1 l))
-knows_words labels names l (Some Verb.Fork) = is_some (pid_in names (word_in 1 l))
-knows_words labels names l (Some Verb.Exit) = true
-knows_words labels names l (Some (Verb.Call verb)) = is_some (made_call labels names l verb)
-
--- a line has a verb, and such words
+-- A line does something: it has a verb, its words are of their kinds, its labels are in the table, and the tasks that it
+-- names have names. Of a write its words do not matter: it is refused where they are wrong.
 abbrev pub is_known : List (List ℕ) → List (List ℕ) → ScriptLine → Bool
-is_known labels names l = knows_words labels names l (verb_in l)
+is_known labels names l = is_some (act_of_line labels names l)
 
 -- A child is open from the line that forks it to the line that waits for it. One that is open is not forked again.
 abbrev pub with_open : List ℕ → Option Pid → Option (List ℕ)

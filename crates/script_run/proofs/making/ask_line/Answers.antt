@@ -6,10 +6,10 @@ use Rattle.script_run.proofs.Working.{asked_verdict, asked_seq}
 use Rattle.script_run.proofs.making.ask_line.Goals as goal
 
 pub returns-in-Ok-Verdict-clause-ran : goal.returns-in-Ok-Verdict-clause-ran
-returns-in-Ok-Verdict-clause-ran g c = λ ls. let act = c.requires.act in
+returns-in-Ok-Verdict-clause-ran g c = λ ls.
     asked_verdict (script_of g.S.ScriptLines.told c.args.stage) (call_seen c.args.line.now) ls c.args.task.now c.ask.new.task c.args.asked.now c.note.new.asked
     c.args.question.0 c.args.question.1 c.args.question.2 c.in-Ok-Verdict.field-0 (is_some c.note.result) c.in-Ok-Verdict.version
-    c.in-Ok-Verdict.verdict act.0 act.1 act.2 act.3 c.in-Ok-Verdict.field-0-is c.in-Ok-Verdict.ensures.asked
+    c.in-Ok-Verdict.verdict c.requires.act c.in-Ok-Verdict.field-0-is c.in-Ok-Verdict.ensures.asked
     (rw (← c.number-number.ensures, ← c.made-seq.ensures.made) c.note.ensures.line) c.in-Ok-Verdict.ensures.once
 
 pub returns-in-Ok-SeqFull-clause-ran : goal.returns-in-Ok-SeqFull-clause-ran

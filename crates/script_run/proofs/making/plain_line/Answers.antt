@@ -1,7 +1,6 @@
-use Rattle.std.proofs.Common.{◌∷◌, refl, subst}
+use Rattle.std.proofs.Common.{◌∷◌, refl, ap, ◌∙◌, Some}
 use Rattle.script_text.specs.Lines.{call_seen}
 use Rattle.task_runs.proofs.Calls.{ran_unchanged}
-use Rattle.script_acts.specs.Acts.{IsAct}
 use Rattle.script_run.specs.Stages.{script_of}
 use Rattle.script_run.proofs.Orders.{no_child}
 use Rattle.script_run.proofs.making.plain_line.Goals as goal
@@ -12,4 +11,4 @@ returns-in-Wait-clause-ran g c = λ ls. ran_unchanged (script_of g.S.ScriptLines
 
 pub returns-in-Wait-clause-cause : goal.returns-in-Wait-clause-cause
 returns-in-Wait-clause-cause g c = λ ls. no_child (script_of g.S.ScriptLines.told c.args.stage) (call_seen c.args.line.now) ls c.in-Wait.field-0
-    (subst (IsAct c.args.stage.kernel.now.labels c.args.stage.names.now (call_seen c.args.line.now)) c.in-Wait.is c.requires.act)
+    (c.requires.act ∙ ap (λ a. Some a) c.in-Wait.is)

@@ -1,13 +1,15 @@
-use Rattle.std.proofs.Common.{arith, refl, sym, ◌∙◌, subst, ◌∷◌, [], length, is_some}
+use Rattle.std.proofs.Common.{◌≡◌, arith, refl, sym, ◌∙◌, subst, ◌∷◌, [], length, take, is_some, Some}
 use Rattle.script_text.specs.Lines.{call_seen}
-use Rattle.task_runs.specs.Scripts.{segment}
+use Rattle.replay_spec.specs.declared.Act.TheVariants as Act
+use Rattle.replay_spec.specs.Acts.{act_of_line}
+use Rattle.task_runs.specs.Scripts.{segment, lines_by}
 use Rattle.task_runs.specs.Orders.{IsOrderly}
 use Rattle.task_runs.proofs.Calls.{ran_none, ran_unchanged}
 use Rattle.script_run.specs.Stages.{script_of, IsForked}
 use Rattle.script_run.specs.Stops.{IsForkCause}
 use Rattle.script_run.proofs.Working.{unforked, fork_lines, go_on, go_stops}
 use Rattle.script_run.proofs.Stopping.{cause_then, fork_lines_cause}
-use Rattle.script_run.proofs.Orders.{fork_on}
+use Rattle.script_run.proofs.Orders.{fork_on, forks_task}
 use Rattle.script_run.proofs.workers.+work.Goals as goal
 
 pub fork_line-returns-in-Err-clause-ran : goal.fork_line-returns-in-Err-clause-ran
@@ -108,3 +110,13 @@ step-returns-in-Ok-Some-clause-orderly g t c = λ on is.
     let lines = g.S.ScriptLines.told c.args.stage.script.now in
     subst (λ n. IsOrderly s (segment c.args.pid n c.args.to lines)) (sym c.plain_step.ensures.at)
     (c.plain_step.ensures.orderly (segment c.args.pid c.args.at c.args.to lines) is)
+
+pub step-fork_line-requires-clause-first : goal.step-fork_line-requires-clause-first
+step-fork_line-requires-clause-first g t c κs within =
+    let s = script_of g.S.ScriptLines.told c.args.stage in
+    let h = c.requires.here in
+    let child = c.in-Ok-Some-Fork.child in
+    let does = subst (λ labels. act_of_line labels s.names (call_seen c.args.line.now) ≡ Some (Act.Fork child)) c.labels.ensures
+    (sym c.in-Ok-Some-Fork.ensures ∙ c.in-Ok-Some-Fork.field-0-is) in
+    subst (λ k. lines_by child.0 (take k s.lines) ≡ []) (sym h.2)
+    (c.requires.forks (call_seen c.args.line.now) h.0 child.0 h.1 (forks_task s (call_seen c.args.line.now) child does))
