@@ -10,7 +10,7 @@ use Rattle.std.proofs.lemmas.Slice.Eq.{bytes_eq-Decides}
 use Rattle.smack_base.specs.Paths.{is_name_byte}
 use Rattle.log_spec.specs.Words.{words, feed}
 use Rattle.log_spec.specs.Audits.{pair}
-use Rattle.audit_line.specs.Values.{behind, value_len, Parted, parted, cut_value, front_of, values_at}
+use Rattle.audit_line.specs.Values.{rest_behind, value_len, Parted, parted, cut_value, front_of, values_at}
 use Rattle.audit_line.proofs.Fronts.{behind_front, behind_is}
 
 -- keys and their values, as pairs
@@ -81,7 +81,7 @@ read_tells [] values text e =
 read_tells (key ∷ keys) values text e =
     option_and_then_some (λ c. option_map (λ values. c.value ∷ values) (values_at keys c.rest)) (cut_value (front_of key) text) values e
     (λ c cut next.
-    let behind_it : (rest : List ℕ) × (behind (front_of key) text ≡ Some rest) × (parted rest ≡ c) = map_some parted (behind (front_of key) text) c cut in
+    let behind_it : (rest : List ℕ) × (rest_behind (front_of key) text ≡ Some rest) × (parted rest ≡ c) = map_some parted (rest_behind (front_of key) text) c cut in
     let more : (others : List (List ℕ)) × (values_at keys c.rest ≡ Some others) × (c.value ∷ others ≡ values) =
     map_some (λ values. c.value ∷ values) (values_at keys c.rest) values next in
     tells_more key c.value text behind_it.0 c.rest keys more.0 values (behind_is (front_of key) text behind_it.0 behind_it.1)

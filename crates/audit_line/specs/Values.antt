@@ -9,10 +9,10 @@ use Rattle.audit_line.specs.declared.values.Cut.{Cut}
 use Rattle.audit_line.specs.declared.values.Values.{Values}
 
 -- what follows a front, where a text begins with it
-abbrev pub behind : List ℕ → List ℕ → Option (List ℕ)
-behind [] text = Some text
-behind (f ∷ fs) [] = None
-behind (f ∷ fs) (b ∷ bs) = if b == f then behind fs bs else None
+abbrev pub rest_behind : List ℕ → List ℕ → Option (List ℕ)
+rest_behind [] text = Some text
+rest_behind (f ∷ fs) [] = None
+rest_behind (f ∷ fs) (b ∷ bs) = if b == f then rest_behind fs bs else None
 
 -- how many bytes from ! to ~ stand in front
 abbrev pub value_len : List ℕ → ℕ
@@ -29,7 +29,7 @@ parted text = record { value = take (value_len text) text; rest = drop (value_le
 
 -- the value behind a front, where a text begins with it
 abbrev pub cut_value : List ℕ → List ℕ → Option Parted
-cut_value front text = option_map parted (behind front text)
+cut_value front text = option_map parted (rest_behind front text)
 
 -- what stands before the value of this key: its pair, with no value
 abbrev pub front_of : List ℕ → List ℕ
@@ -48,7 +48,7 @@ line_keys =
 
 -- the values of a line, which begins with its first word
 abbrev pub values_of_line : List ℕ → Option (List (List ℕ))
-values_of_line line = option_and_then (values_at line_keys) (behind (codes "a") line)
+values_of_line line = option_and_then (values_at line_keys) (rest_behind (codes "a") line)
 
 -- what the code has cut off, as bytes
 abbrev pub seen_cut : Cut → Parted

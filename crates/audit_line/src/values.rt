@@ -2,7 +2,7 @@ ghost use Rattle.std.specs.Prelude.{◌≡◌, ◌≤◌, length, not, position}
 ghost use Rattle.std.specs.List.{position_or_len};
 ghost use Rattle.std.specs.Option.{option_map};
 ghost use Rattle.smack_base.specs.Paths.{is_name_byte};
-ghost use Rattle.audit_line.specs.Values.{value_len as len_of_value, behind, cut_value as cut_of, values_of_line, seen_cut, seen_values};
+ghost use Rattle.audit_line.specs.Values.{value_len as len_of_value, rest_behind, cut_value as cut_of, values_of_line, seen_cut, seen_values};
 
 /// A value, and what follows it.
 #[derive(Clone, Copy)]
@@ -42,7 +42,7 @@ fn value_len(text: &[u8]) -> usize
 
 /// What follows a front; None where the text does not begin with it.
 fn strip<'a>(text: &'a [u8], front: &[u8]) -> Option<&'a [u8]>
-    ensures { option_map (λ rest. rest.now) result ≡ behind front.now text.now }
+    ensures { option_map (λ rest. rest.now) result ≡ rest_behind front.now text.now }
 {
     text.strip_prefix(front)
 }

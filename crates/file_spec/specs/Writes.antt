@@ -71,15 +71,15 @@ pub data NamedWrite : Type 0 where
   NamedLogging : ℕ → NamedWrite
 
 -- the labels that a write names
-abbrev pub names_of : NamedWrite → List (List ℕ)
-names_of (NamedSet s o m) = s.bytes ∷ o.bytes ∷ []
-names_of (NamedChange s o allow deny) = s.bytes ∷ o.bytes ∷ []
-names_of (NamedRevoke s) = s.bytes ∷ []
-names_of NamedClear = []
-names_of (NamedAdd l) = l.bytes ∷ []
-names_of (NamedAmbient l) = l.bytes ∷ []
-names_of (NamedPtrace n) = []
-names_of (NamedLogging n) = []
+abbrev pub labels_named : NamedWrite → List (List ℕ)
+labels_named (NamedSet s o m) = s.bytes ∷ o.bytes ∷ []
+labels_named (NamedChange s o allow deny) = s.bytes ∷ o.bytes ∷ []
+labels_named (NamedRevoke s) = s.bytes ∷ []
+labels_named NamedClear = []
+labels_named (NamedAdd l) = l.bytes ∷ []
+labels_named (NamedAmbient l) = l.bytes ∷ []
+labels_named (NamedPtrace n) = []
+labels_named (NamedLogging n) = []
 
 abbrev pub modes_or_none : Option Placed → Modes
 modes_or_none None = no_modes
@@ -138,7 +138,7 @@ writes_of_text file text = all_good (write_answers file text)
 
 abbrev pub names_of_writes : Result (List NamedWrite) BadLine → List (List ℕ)
 names_of_writes (Err bad) = []
-names_of_writes (Ok writes) = flat_map names_of writes
+names_of_writes (Ok writes) = flat_map labels_named writes
 
 -- the labels of a text that its file accepts
 abbrev pub names_of_text : Option SmackFile → List ℕ → List (List ℕ)

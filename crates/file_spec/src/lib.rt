@@ -10,7 +10,7 @@ use text_spec::BadLine;
 
 /// The smackfs files whose text becomes writes to rules and settings (Smack guide, its list of
 /// smackfs files).
-#[derive(Clone, Copy, Debug, PartialEq, Eq)]
+#[derive(Clone, Copy, PartialEq, Eq)]
 pub enum RuleFile {
     /// `load2`: lines of subject, object and access.
     Load2,
@@ -32,7 +32,7 @@ pub enum RuleFile {
 
 /// The smackfs files whose text is a call on the writing task (Smack guide, its list of smackfs
 /// files).
-#[derive(Clone, Copy, Debug, PartialEq, Eq)]
+#[derive(Clone, Copy, PartialEq, Eq)]
 pub enum SelfFile {
     /// `load-self2`: self rules, in a text as that of `load2`.
     LoadSelf2,
@@ -43,7 +43,7 @@ pub enum SelfFile {
 }
 
 /// The smackfs files that can be written.
-#[derive(Clone, Copy, Debug, PartialEq, Eq)]
+#[derive(Clone, Copy, PartialEq, Eq)]
 pub enum SmackFile {
     /// Its text becomes writes to rules and settings.
     Rule(RuleFile),
@@ -52,7 +52,7 @@ pub enum SmackFile {
 }
 
 /// Why a write to a smackfs file is refused, the first in this order.
-#[derive(Clone, Copy, Debug, PartialEq, Eq)]
+#[derive(Clone, Copy, PartialEq, Eq)]
 pub enum Refusal {
     /// There is no such file.
     NoSuchFile,
@@ -69,7 +69,7 @@ pub enum Refusal {
 }
 
 /// What the text of a smackfs file becomes.
-#[derive(Debug, Drop)]
+#[derive(Drop)]
 pub enum Compiled {
     /// A batch of rule writes.
     Rules(RuleOps),

@@ -7,16 +7,13 @@ use indexmap::IndexSet;
 use smack_base::{Duplicate, Label, LabelId};
 use std::alloc::{AllocError, Global};
 use std::marker::Model;
-use thiserror::Error;
 
 /// Why a label got no id.
-#[derive(Clone, Copy, Debug, PartialEq, Eq, Error)]
+#[derive(Clone, Copy, Debug, PartialEq, Eq)]
 pub enum LabelsFault {
     /// The label is new, and 65,535 labels stand.
-    #[error("a label table has at most 65535 labels")]
     TooMany,
     /// There is no memory for it.
-    #[error("out of memory")]
     Memory,
 }
 

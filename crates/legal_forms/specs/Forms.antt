@@ -15,7 +15,7 @@ use Rattle.world_spec.specs.Replays.{version_of, step_of, after_entry, cred_at}
 use Rattle.record_spec.specs.declared.AskedLine.{AskedLine}
 use Rattle.record_spec.specs.declared.AskedWhat.{AskedWhat}
 use Rattle.record_spec.specs.declared.RunRecord.{RunRecord}
-use Rattle.legal_spec.specs.Legal.{rows_of}
+use Rattle.legal_spec.specs.Legal.{rows_taken}
 use Rattle.legal_forms.specs.Same.{same_verdict, same_checks, same_reply}
 use Rattle.legal_forms.specs.MadeCalls.{MadeCall, made_calls, count_of, call_at, greatest_reached, MadeFork, forks_of, has_task, task_numbers, version_told, descendants}
 
@@ -112,7 +112,7 @@ is_refused r a file (Refusal.BadLine bad) = true
 is_refused r a file (Refusal.UnknownLabel line) = true
 is_refused r a file Refusal.NotPrivileged =
     is_some (rule_file file) && not (is_effective (cred_at r.journal r.history a.task a.seq) Cap.MacAdmin (version_of r.journal a.version))
-is_refused r a file (Refusal.JournalFull rows) = is_some (rule_file file) && (rows == rows_of (take a.version r.journal))
+is_refused r a file (Refusal.JournalFull rows) = is_some (rule_file file) && (rows == rows_taken (take a.version r.journal))
 
 -- whether a line is so in its version
 abbrev pub is_so : RunRecord → AskedLine → AskedWhat → Bool

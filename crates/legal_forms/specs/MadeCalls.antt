@@ -6,7 +6,7 @@ use Rattle.world_spec.specs.declared.Entry.{Entry}
 use Rattle.record_spec.specs.declared.AskedLine.{AskedLine}
 use Rattle.record_spec.specs.declared.NumberedTask.{NumberedTask}
 use Rattle.record_spec.specs.declared.RunRecord.{RunRecord}
-use Rattle.record_spec.specs.Tasks.{child_of}
+use Rattle.record_spec.specs.Tasks.{numbered_child}
 use Rattle.replay_spec.specs.Laws.{is_call}
 
 -- one call of a record, as `IsCall` has it
@@ -63,7 +63,7 @@ fork_by e (Some t) = record { parent = e.task; seq = e.seq; version = e.version;
 
 -- the forks of a history, in order
 abbrev pub forks_of : List Entry → List MadeFork
-forks_of history = flat_map (λ e. fork_by e (child_of e)) history
+forks_of history = flat_map (λ e. fork_by e (numbered_child e)) history
 
 abbrev pub has_task : List ℕ → ℕ → Bool
 has_task numbers task = list_any (λ n. n == task) numbers

@@ -8,7 +8,8 @@ use Rattle.world_spec.specs.declared.Call.{Call}
 use Rattle.world_spec.specs.declared.Reply.{Reply}
 use Rattle.world_spec.specs.declared.Entry.{Entry}
 use Rattle.record_spec.specs.declared.NumberedTask.{NumberedTask}
-use Rattle.record_spec.specs.Tasks.{forked, child_number, child_by, child_of}
+use Rattle.world_spec.specs.Replies.{child_of}
+use Rattle.record_spec.specs.Tasks.{forked, child_by, numbered_child}
 use Rattle.legal_spec.specs.Calls.{Stands, IsForkOf, IsTask}
 use Rattle.legal_forms.specs.MadeCalls.{MadeFork, fork_by, forks_of, has_task, task_numbers}
 use Rattle.legal_forms_laws.proofs.Members.{same_some, Has, has_there, place_of_one, has_left, has_right, has_either, has_image, has_source}
@@ -19,14 +20,14 @@ is_fork (Call.Task (TaskCall.Fork p)) pid is = ap (λ x. Call.Task (TaskCall.For
 is_fork (Call.Task call) pid is = absurd cc
 is_fork (Call.Tree call) pid is = absurd cc
 
-is_child : (reply : Reply) (k : ℕ) → child_number reply ≡ Some k → reply ≡ Reply.Child k
+is_child : (reply : Reply) (k : ℕ) → child_of reply ≡ Some k → reply ≡ Reply.Child k
 is_child (Reply.Child n) k is = ap (λ x. Reply.Child x) (same_some n k is)
 is_child reply k is = absurd cc
 
-fork_made : (e : Entry) (t : NumberedTask) → child_of e ≡ Some t → IsForkOf e t.number t.pid
-fork_made e t = by (forked e.call) (child_number e.reply) refl refl
+fork_made : (e : Entry) (t : NumberedTask) → numbered_child e ≡ Some t → IsForkOf e t.number t.pid
+fork_made e t = by (forked e.call) (child_of e.reply) refl refl
   where
-    by : (pid : Option Pid) (k : Option ℕ) → forked e.call ≡ pid → child_number e.reply ≡ k → child_by pid k ≡ Some t → IsForkOf e t.number t.pid
+    by : (pid : Option Pid) (k : Option ℕ) → forked e.call ≡ pid → child_of e.reply ≡ k → child_by pid k ≡ Some t → IsForkOf e t.number t.pid
     by None k call reply is = absurd cc
     by (Some pid) None call reply is = absurd cc
     by (Some pid) (Some k) call reply is =
@@ -35,8 +36,8 @@ fork_made e t = by (forked e.call) (child_number e.reply) refl refl
           is_child e.reply t.number (reply ∙ ap (λ (x : NumberedTask). Some x.number) same),
         )
 
-pub made_fork : (e : Entry) (k : ℕ) (pid : Pid) → IsForkOf e k pid → child_of e ≡ Some (record { number = k; pid = pid })
-made_fork e k pid is i = child_by (forked (is.0 i)) (child_number (is.1 i))
+pub made_fork : (e : Entry) (k : ℕ) (pid : Pid) → IsForkOf e k pid → numbered_child e ≡ Some (record { number = k; pid = pid })
+made_fork e k pid is i = child_by (forked (is.0 i)) (child_of (is.1 i))
 
 -- a fork of an entry
 abbrev pub fork_of_entry : Entry → ℕ → Pid → MadeFork
@@ -49,11 +50,11 @@ has_fork [] i e k pid at is = absurd (none at)
     none : Stands [] i e → ⊥
     none at = cc
 has_fork (x ∷ xs) zero e k pid at is =
-    has_left (fork_by x (child_of x)) (forks_of xs) (fork_of_entry e k pid)
-    (subst (λ (y : Entry). Has (fork_by y (child_of y)) (fork_of_entry e k pid)) (sym (same_some x e at))
+    has_left (fork_by x (numbered_child x)) (forks_of xs) (fork_of_entry e k pid)
+    (subst (λ (y : Entry). Has (fork_by y (numbered_child y)) (fork_of_entry e k pid)) (sym (same_some x e at))
     (subst (λ o. Has (fork_by e o) (fork_of_entry e k pid)) (sym (made_fork e k pid is)) (inl refl)))
 has_fork (x ∷ xs) (suc i) e k pid at is =
-    has_right (fork_by x (child_of x)) (forks_of xs) (fork_of_entry e k pid) (has_fork xs i e k pid at is)
+    has_right (fork_by x (numbered_child x)) (forks_of xs) (fork_of_entry e k pid) (has_fork xs i e k pid at is)
 
 -- the entry of a fork in the list
 pub record IsForkIn (history : List Entry) (f : MadeFork) : Type 0 where
@@ -63,10 +64,10 @@ pub record IsForkIn (history : List Entry) (f : MadeFork) : Type 0 where
   pub is : IsForkOf fork f.number f.pid
   pub same : fork_of_entry fork f.number f.pid ≡ f
 
-of_one : (x : Entry) (f : MadeFork) → Has (fork_by x (child_of x)) f → IsForkOf x f.number f.pid × (fork_of_entry x f.number f.pid ≡ f)
-of_one x f = by (child_of x) refl
+of_one : (x : Entry) (f : MadeFork) → Has (fork_by x (numbered_child x)) f → IsForkOf x f.number f.pid × (fork_of_entry x f.number f.pid ≡ f)
+of_one x f = by (numbered_child x) refl
   where
-    by : (o : Option NumberedTask) → child_of x ≡ o → Has (fork_by x o) f → IsForkOf x f.number f.pid × (fork_of_entry x f.number f.pid ≡ f)
+    by : (o : Option NumberedTask) → numbered_child x ≡ o → Has (fork_by x o) f → IsForkOf x f.number f.pid × (fork_of_entry x f.number f.pid ≡ f)
     by None is has = absurd has
     by (Some t) is (inl same) = (
       subst (λ (g : MadeFork). IsForkOf x g.number g.pid) same (fork_made x t is),
@@ -76,9 +77,9 @@ of_one x f = by (child_of x) refl
 
 pub fork_has : (history : List Entry) (f : MadeFork) → Has (forks_of history) f → IsForkIn history f
 fork_has [] f has = absurd has
-fork_has (x ∷ xs) f has = by (fork_has xs f) (has_either (fork_by x (child_of x)) (forks_of xs) f has)
+fork_has (x ∷ xs) f has = by (fork_has xs f) (has_either (fork_by x (numbered_child x)) (forks_of xs) f has)
   where
-    by : (Has (forks_of xs) f → IsForkIn xs f) → Has (fork_by x (child_of x)) f ⊎ Has (forks_of xs) f → IsForkIn (x ∷ xs) f
+    by : (Has (forks_of xs) f → IsForkIn xs f) → Has (fork_by x (numbered_child x)) f ⊎ Has (forks_of xs) f → IsForkIn (x ∷ xs) f
     by again (inl here) = let of = of_one x f here in record { place = 0; fork = x; there = refl; is = of.0; same = of.1 }
     by again (inr rest) =
         let of = again rest in record { place = suc of.place; fork = of.fork; there = of.there; is = of.is; same = of.same }

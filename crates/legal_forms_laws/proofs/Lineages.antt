@@ -6,7 +6,7 @@ use Rattle.std.proofs.lemmas.Grind.{flat_map-append}
 use Rattle.std.proofs.lemmas.List.Sums.{fold-append}
 use Rattle.smack_base.specs.declared.ids.Pid.{Pid}
 use Rattle.world_spec.specs.declared.Entry.{Entry}
-use Rattle.record_spec.specs.Tasks.{child_of}
+use Rattle.record_spec.specs.Tasks.{numbered_child}
 use Rattle.legal_spec.specs.Calls.{Stands, IsForkOf, Descends, itself, child}
 use Rattle.legal_forms.specs.MadeCalls.{MadeFork, fork_by, forks_of, has_task, with_descendant, descendants}
 use Rattle.legal_forms_laws.proofs.Members.{same_some, Has}
@@ -108,7 +108,7 @@ module _ (history : List Entry) (ancestor : ℕ) where
         → descendants (forks_of history) ancestor ≡ after (after (ancestor ∷ []) (forks_of s.front)) (forks_of (e ∷ s.back))
     parts i e s =
         ap (λ (es : List Entry). after (ancestor ∷ []) (forks_of es)) s.is
-        ∙ ap (after (ancestor ∷ [])) (flat_map-append (λ x. fork_by x (child_of x)) s.front (e ∷ s.back))
+        ∙ ap (after (ancestor ∷ [])) (flat_map-append (λ x. fork_by x (numbered_child x)) s.front (e ∷ s.back))
         ∙ fold-append with_descendant (ancestor ∷ []) (forks_of s.front) (forks_of (e ∷ s.back))
 
     joins : (numbers : List ℕ) (e : Entry) (back : List Entry) (k : ℕ) (pid : Pid) → IsForkOf e k pid → Has numbers e.task

@@ -12,7 +12,7 @@ use Rattle.world_spec.specs.Replays.{version_of, cred_at}
 use Rattle.record_spec.specs.declared.AskedLine.{AskedLine}
 use Rattle.record_spec.specs.declared.AskedWhat.{AskedWhat}
 use Rattle.record_spec.specs.declared.RunRecord.{RunRecord}
-use Rattle.legal_spec.specs.Legal.{rows_of, IsRefused, IsSo}
+use Rattle.legal_spec.specs.Legal.{rows_taken, IsRefused, IsSo}
 use Rattle.legal_forms.specs.Forms.{is_refused, is_so}
 use Rattle.legal_forms.specs.Laws.{BatchesAreDecided, LinesAreDecided}
 use Rattle.legal_forms_laws.proofs.Quantified.{all_at_decides, list_all_decides}
@@ -44,8 +44,8 @@ refused_decides r a file Refusal.NotPrivileged =
     let may = is_effective (cred_at r.journal r.history a.task a.seq) Cap.MacAdmin (version_of r.journal a.version) in
     Decides-and (is_some (rule_file file)) (not may) (true_decides (is_some (rule_file file))) (false_decides may)
 refused_decides r a file (Refusal.JournalFull rows) =
-    Decides-and (is_some (rule_file file)) (rows == rows_of (take a.version r.journal)) (true_decides (is_some (rule_file file)))
-    (Decides-eqb rows (rows_of (take a.version r.journal)))
+    Decides-and (is_some (rule_file file)) (rows == rows_taken (take a.version r.journal)) (true_decides (is_some (rule_file file)))
+    (Decides-eqb rows (rows_taken (take a.version r.journal)))
 
 so_decides : (r : RunRecord) (a : AskedLine) (what : AskedWhat) → Decides (is_so r a what) (IsSo r a what)
 so_decides r a (AskedWhat.Ask v) = verdict_decides v (verdict_of_cases (version_of r.journal a.version) v.subject v.object v.modes)

@@ -45,8 +45,8 @@ ArePrivileged r = (i : ℕ) (b : Batch) → Stands r.journal i b
     → is_effective (cred_at r.journal r.history b.task b.seq) Cap.MacAdmin (version_of r.journal i) ≡ true
 
 -- the rows that a version takes: for each batch its writes and one
-abbrev pub rows_of : List Batch → ℕ
-rows_of version = sum_by (λ b. length b.ops + 1) version
+abbrev pub rows_taken : List Batch → ℕ
+rows_taken version = sum_by (λ b. length b.ops + 1) version
 
 -- A batch is refused for want of privilege, or for want of room, only where a file of rules or settings is written.
 -- Other refusals are of the text, which the record does not have.
@@ -58,7 +58,7 @@ IsRefused r a file (Refusal.UnknownLabel line) = Unit {0}
 IsRefused r a file Refusal.NotPrivileged =
     (is_some (rule_file file) ≡ true)
     × (is_effective (cred_at r.journal r.history a.task a.seq) Cap.MacAdmin (version_of r.journal a.version) ≡ false)
-IsRefused r a file (Refusal.JournalFull rows) = (is_some (rule_file file) ≡ true) × (rows ≡ rows_of (take a.version r.journal))
+IsRefused r a file (Refusal.JournalFull rows) = (is_some (rule_file file) ≡ true) × (rows ≡ rows_taken (take a.version r.journal))
 
 -- what a line says that is neither a batch nor an object call is so in its version
 abbrev pub IsSo : RunRecord → AskedLine → AskedWhat → Type 0

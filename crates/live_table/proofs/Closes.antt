@@ -9,7 +9,7 @@ use Rattle.atomic_table.specs.Table.{State, step, Final, Seen}
 use Rattle.rules_spec.specs.declared.Batch.{Batch}
 use Rattle.live_table.specs.declared.view.View.{View}
 use Rattle.live_table.specs.Lists.{Begins, Has, here, there, those_of}
-use Rattle.live_table.specs.Batches.{batches_by, task_of}
+use Rattle.live_table.specs.Batches.{batches_by, task_of_batch}
 use Rattle.live_table.specs.Machines.{Means, made, makes, last_version, Next, LegalFrom, entries_by}
 use Rattle.live_table.specs.Core.{bit, Holds, Rule}
 use Rattle.live_table.specs.Seats.{IsWhole, Closes}
@@ -104,7 +104,7 @@ module _ {S E : Type 0} (m : Means S E) where
       let task : (b : Batch) → Has b c.journal → Has b.task v.numbers = λ b h. let l = r.tasks b h in
       all b.task (omega arith) in
       let journal : c.journal ≡ v.journal = nothing_more c.journal v.journal f.seen
-      (λ b rest is. none_later task_of v.journal b rest
+      (λ b rest is. none_later task_of_batch v.journal b rest
       (ap (batches_by b.task) (sym is)
       ∙ (f.owns b.task (task b (subst (Has b) (sym is) (has_right v.journal here)))).batches)) in
       let h = home_free m c c.turned s.homes free r.home in (

@@ -6,17 +6,17 @@ use Rattle.rules_spec.specs.declared.Batch.{Batch}
 use Rattle.rule_word.specs.declared.head.Head.{Head}
 use Rattle.rule_word.specs.Layout.{op_word, IsPackable, head_word, IsHead}
 use Rattle.live_table.specs.Lists.{Has, here, there}
-use Rattle.live_table.specs.Batches.{IsPacked, ArePacked, batch_words, words_of, rows_of, Cut, OpsAt, first_of, first_rows}
+use Rattle.live_table.specs.Batches.{IsPacked, ArePacked, batch_words, journal_words, rows_of, Cut, OpsAt, first_batch, first_rows}
 use Rattle.live_table.proofs.Lists.{words-append, has_right, long_map}
 
 pub rows_cut : (front rest : List Batch) → rows_of (front ++ rest) ≡ rows_of front + rows_of rest
-rows_cut front rest = ap length (words-append front rest) ∙ length-append (words_of front) (words_of rest)
+rows_cut front rest = ap length (words-append front rest) ∙ length-append (journal_words front) (journal_words rest)
 
 pub batch_rows : (b : Batch) → length (batch_words b) ≡ 1 + length b.ops
 batch_rows b = let l = long_map op_word b.ops in omega arith
 
 pub rows_of_batch : (b : Batch) (bs : List Batch) → rows_of (b ∷ bs) ≡ 1 + length b.ops + rows_of bs
-rows_of_batch b bs = let l = length-append (batch_words b) (words_of bs) in let k = batch_rows b in omega arith
+rows_of_batch b bs = let l = length-append (batch_words b) (journal_words bs) in let k = batch_rows b in omega arith
 
 -- each batch has a row
 pub length_rows : (bs : List Batch) → length bs ≤ rows_of bs
@@ -61,16 +61,16 @@ pub record Headed (journal front rest : List Batch) (at : ℕ) : Type 0 where
   pub more : List Batch
   pub is : rest ≡ batch ∷ more
   pub packed : IsPacked batch
-  pub word : get_or (words_of journal) at 0 ≡ head_word batch.task batch.seq (length batch.ops)
-  pub ops : OpsAt (words_of journal) (at + 1) batch.ops
+  pub word : get_or (journal_words journal) at 0 ≡ head_word batch.task batch.seq (length batch.ops)
+  pub ops : OpsAt (journal_words journal) (at + 1) batch.ops
   pub fits : at + 1 + length batch.ops ≤ rows_of journal
 
 pub headed : (journal front rest : List Batch) (at : ℕ) → ArePacked journal → Cut journal front rest at
     → at < rows_of journal → Headed journal front rest at
 headed journal front [] at packed c inside = absurd (let w = cut_within c in omega arith)
 headed journal front (b ∷ rest) at packed c inside =
-    let f : List ℕ = words_of front in
-    let all : words_of journal ≡ f ++ (batch_words b ++ words_of rest) = ap words_of c.is
+    let f : List ℕ = journal_words front in
+    let all : journal_words journal ≡ f ++ (batch_words b ++ journal_words rest) = ap journal_words c.is
     ∙ words-append front (b ∷ rest) in
     let h : ℕ = head_word b.task b.seq (length b.ops) in
     let p = packed b (subst (Has b) (sym c.is) (has_right front here)) in record {
@@ -78,11 +78,11 @@ headed journal front (b ∷ rest) at packed c inside =
       more = rest;
       is = refl;
       packed = p;
-      word = (λ i. get_or (all i) (c.rows i) 0) ∙ get_or-append_seam f h (map op_word b.ops ++ words_of rest) 0;
+      word = (λ i. get_or (all i) (c.rows i) 0) ∙ get_or-append_seam f h (map op_word b.ops ++ journal_words rest) 0;
       ops = record {
         front = f ++ h ∷ [];
-        rest = words_of rest;
-        is = all ∙ sym (append_assoc f (h ∷ []) (map op_word b.ops ++ words_of rest));
+        rest = journal_words rest;
+        is = all ∙ sym (append_assoc f (h ∷ []) (map op_word b.ops ++ journal_words rest));
         place = let r = c.rows in let l = length-append f (h ∷ []) in omega arith;
         packed = p.ops;
       };
@@ -191,7 +191,7 @@ read_all {words} {at} {len} {i} {done} {ops} r l = let long = r.long in
 
 -- the head that a word is unpacked to is that of the batch which stands there
 pub heads_it : {journal front rest : List Batch} {at w : ℕ} (h : Headed journal front rest at) (o : Option Head)
-    (x : Head) → w ≡ get_or (words_of journal) at 0
+    (x : Head) → w ≡ get_or (journal_words journal) at 0
     → ((y : Head) → IsHead y.task y.seq y.len → head_word y.task y.seq y.len ≡ w → o ≡ Some y) → o ≡ Some x
     → x ≡ record { task = h.batch.task; seq = h.batch.seq; len = length h.batch.ops }
 heads_it h o x e tells is =
@@ -199,7 +199,7 @@ heads_it h o x e tells is =
     some_one (sym is ∙ tells y h.packed.head (sym h.word ∙ sym e))
 
 pub heads_some : {journal front rest : List Batch} {at w : ℕ} (h : Headed journal front rest at) (o : Option Head)
-    → w ≡ get_or (words_of journal) at 0
+    → w ≡ get_or (journal_words journal) at 0
     → ((y : Head) → IsHead y.task y.seq y.len → head_word y.task y.seq y.len ≡ w → o ≡ Some y) → o ≡ None → ⊥
 heads_some h o e tells is =
     let y : Head = record { task = h.batch.task; seq = h.batch.seq; len = length h.batch.ops } in
@@ -224,11 +224,11 @@ pub record ReadsBatch (journal after : List Batch) (at n : ℕ) : Type 0 where
   pub within : n ≤ rows_of journal
 
 pub reads_batch : {journal front rest after : List Batch} {at n : ℕ} (o : Option Batch) (x : Batch)
-    → Cut journal front rest at → o ≡ first_of rest → o ≡ Some x
+    → Cut journal front rest at → o ≡ first_batch rest → o ≡ Some x
     → after ≡ front ++ x ∷ [] → n ≡ at + (1 + length x.ops) → ReadsBatch journal after at n
 reads_batch {journal} {front} {rest} {after} {at} {n} o x c first is more behind = case rest c (sym is ∙ first)
   where
-    case : (rest : List Batch) → Cut journal front rest at → Some x ≡ first_of rest → ReadsBatch journal after at n
+    case : (rest : List Batch) → Cut journal front rest at → Some x ≡ first_batch rest → ReadsBatch journal after at n
     case [] c e = absurd (let e' : ◌≡◌ {A = Option Batch} (Some x) None = e in cc)
     case (b ∷ rest) c e =
         let same : b ≡ x = sym (some_one e) in
@@ -241,10 +241,10 @@ reads_batch {journal} {front} {rest} {after} {at} {n} o x c first is more behind
           within = let w = cut_within cut in omega arith;
         }
 
-pub reads_none : {journal front rest : List Batch} {at : ℕ} → Cut journal front rest at → None ≡ first_of rest
+pub reads_none : {journal front rest : List Batch} {at : ℕ} → Cut journal front rest at → None ≡ first_batch rest
     → front ≡ journal
 reads_none {journal} {front} {rest} {at} c e = case rest c e
   where
-    case : (rest : List Batch) → Cut journal front rest at → None ≡ first_of rest → front ≡ journal
+    case : (rest : List Batch) → Cut journal front rest at → None ≡ first_batch rest → front ≡ journal
     case [] c e = sym (c.is ∙ append-nil front)
     case (b ∷ rest) c e = absurd (let e' : ◌≡◌ {A = Option Batch} None (Some b) = e in cc)

@@ -12,7 +12,7 @@ use Rattle.smack_base.specs.declared.rule_op.RuleOp.{RuleOp}
 use Rattle.rule_word.specs.Layout.{op_word, IsPackable, head_word}
 use Rattle.rule_word.specs.Fields.{task_in, seq_in, len_in}
 use Rattle.rule_word.proofs.Words.{op_one, head_back}
-use Rattle.live_table.specs.Batches.{ArePacked, words_of, rows_of, batch_words}
+use Rattle.live_table.specs.Batches.{ArePacked, journal_words, rows_of, batch_words}
 
 module _ {A : Type 0} where
   pub begins_self : (xs : List A) → Begins xs xs
@@ -87,13 +87,13 @@ module _ {A : Type 0} where
     those_all (x ∷ xs) n = rw (eq-eqb (number x) k (n x here))
         (ap (λ (l : List A). x ∷ l) (those_all xs (λ y h. n y (there h))))
 
-pub words-append : (xs ys : List Batch) → words_of (xs ++ ys) ≡ words_of xs ++ words_of ys
+pub words-append : (xs ys : List Batch) → journal_words (xs ++ ys) ≡ journal_words xs ++ journal_words ys
 words-append [] ys = refl
 words-append (b ∷ xs) ys = ap (λ (l : List ℕ). batch_words b ++ l) (words-append xs ys)
-    ∙ sym (append_assoc (batch_words b) (words_of xs) (words_of ys))
+    ∙ sym (append_assoc (batch_words b) (journal_words xs) (journal_words ys))
 
-pub words_begin : {xs ys : List Batch} → Begins xs ys → Begins (words_of xs) (words_of ys)
-words_begin {xs} {ys} b = record { rest = words_of b.rest; is = ap words_of b.is ∙ words-append ys b.rest }
+pub words_begin : {xs ys : List Batch} → Begins xs ys → Begins (journal_words xs) (journal_words ys)
+words_begin {xs} {ys} b = record { rest = journal_words b.rest; is = ap journal_words b.is ∙ words-append ys b.rest }
 
 pub rows_begin : {xs ys : List Batch} → Begins xs ys → rows_of ys ≤ rows_of xs
 rows_begin b = begins_length (words_begin b)
@@ -129,8 +129,8 @@ module _ {V : Type 0} where
       × (get_elem? (vs ++ w ∷ []) j ≡ some d) × P d
   there_snoc P vs j w t = (t.0, at_longer vs (w ∷ []) j t.0 t.1, t.2)
 
-pub rows-append : (xs ys : List Batch) → rows_of (xs ++ ys) ≡ rows_of xs + length (words_of ys)
-rows-append xs ys = ap length (words-append xs ys) ∙ length-append (words_of xs) (words_of ys)
+pub rows-append : (xs ys : List Batch) → rows_of (xs ++ ys) ≡ rows_of xs + length (journal_words ys)
+rows-append xs ys = ap length (words-append xs ys) ∙ length-append (journal_words xs) (journal_words ys)
 
 cut_same : (a b c d : List ℕ) → a ++ c ≡ b ++ d → length a ≡ length b → (a ≡ b) × (c ≡ d)
 cut_same [] [] c d e l = (refl, e)
@@ -160,18 +160,18 @@ abbrev head_of : Batch → ℕ
 head_of b = head_word b.task b.seq (length b.ops)
 
 -- the words tell the batches
-pub one_words : (xs ys : List Batch) → ArePacked xs → ArePacked ys → words_of xs ≡ words_of ys → xs ≡ ys
+pub one_words : (xs ys : List Batch) → ArePacked xs → ArePacked ys → journal_words xs ≡ journal_words ys → xs ≡ ys
 one_words [] [] s t e = refl
 one_words [] (y ∷ ys) s t e = absurd
-    (let e' : ◌≡◌ {A = List ℕ} [] (head_of y ∷ (map op_word y.ops ++ words_of ys)) = e in cc)
+    (let e' : ◌≡◌ {A = List ℕ} [] (head_of y ∷ (map op_word y.ops ++ journal_words ys)) = e in cc)
 one_words (x ∷ xs) [] s t e = absurd
-    (let e' : ◌≡◌ {A = List ℕ} (head_of x ∷ (map op_word x.ops ++ words_of xs)) [] = e in cc)
+    (let e' : ◌≡◌ {A = List ℕ} (head_of x ∷ (map op_word x.ops ++ journal_words xs)) [] = e in cc)
 one_words (x ∷ xs) (y ∷ ys) s t e =
     let a : List ℕ = map op_word x.ops in
     let b : List ℕ = map op_word y.ops in
-    let e' : head_of x ∷ (a ++ words_of xs) ≡ head_of y ∷ (b ++ words_of ys) = e in
+    let e' : head_of x ∷ (a ++ journal_words xs) ≡ head_of y ∷ (b ++ journal_words ys) = e in
     let first : head_of x ≡ head_of y = cc in
-    let others : a ++ words_of xs ≡ b ++ words_of ys = cc in
+    let others : a ++ journal_words xs ≡ b ++ journal_words ys = cc in
     let p = s x here in
     let q = t y here in
     let f = head_back x.task x.seq (length x.ops) p.head in
@@ -179,7 +179,7 @@ one_words (x ∷ xs) (y ∷ ys) s t e =
     let task : x.task ≡ y.task = sym f.0 ∙ (ap task_in first ∙ g.0) in
     let seq : x.seq ≡ y.seq = sym f.1 ∙ (ap seq_in first ∙ g.1) in
     let len : length x.ops ≡ length y.ops = sym f.2 ∙ (ap len_in first ∙ g.2) in
-    let both = cut_same a b (words_of xs) (words_of ys) others
+    let both = cut_same a b (journal_words xs) (journal_words ys) others
     (long_map op_word x.ops ∙ (len ∙ sym (long_map op_word y.ops))) in
     let ops = same_ops x.ops y.ops p.ops q.ops both.0 in
     let rest = one_words xs ys (λ z h. s z (there h)) (λ z h. t z (there h)) both.1 in

@@ -10,7 +10,7 @@ use Rattle.atomic_table.proofs.Lists.{exchanged}
 use Rattle.rules_spec.specs.declared.Batch.{Batch}
 use Rattle.live_table.specs.declared.view.View.{View}
 use Rattle.live_table.specs.Lists.{Begins, Has, here}
-use Rattle.live_table.specs.Batches.{ArePacked, words_of, rows_of, batches_by, task_of}
+use Rattle.live_table.specs.Batches.{ArePacked, journal_words, rows_of, batches_by, task_of_batch}
 use Rattle.live_table.specs.Machines.{Means, last_version}
 use Rattle.live_table.specs.Core.{bit, Core, row_count, drawn_count, Home, Fits, Holds, Rule}
 use Rattle.live_table.specs.Plays.{Saw, with_pen, saw, read, penned, filled, published}
@@ -135,7 +135,7 @@ module _ {S E : Type 0} (m : Means S E) where
   in_room s r j d at =
       let c = r.core in
       let f = r.fits j d at in
-      let b = begins_length r.shown in let l = length-append (words_of c.journal) c.filled in let rm = r.room in
+      let b = begins_length r.shown in let l = length-append (journal_words c.journal) c.filled in let rm = r.room in
       (elim d.pen as (λ b'. d.pen ≡ b' → rows_of c.journal + length d.filled ≤ row_count) [
         | true ↦ λ e. let g = ap (λ (x : List ℕ). length x) (f.pen e).filled in omega arith
         | false ↦ λ e. let g = ap (λ (x : List ℕ). length x) (f.bare e) in omega arith
@@ -171,7 +171,7 @@ module _ {S E : Type 0} (m : Means S E) where
       → Allows (Rule m) slots id me (i + 3) (λ x. x) (read (step slots (i + 3) 0 0 none) me)
   reads slots id me i inside s r _ at _ = let c = r.core in let f = r.fits id me.0 at in
       let w : View E = record me.0 { loads = me.0.loads + 1 } in
-      let all : Begins r.rows (words_of me.0.journal) = begins_trans
+      let all : Begins r.rows (journal_words me.0.journal) = begins_trans
       (begins_trans r.shown (record { rest = c.filled; is = refl })) (words_begin f.seen) in
       let back : (i + 3) - 3 ≡ i = omega arith in let front : i + 3 ≡ 3 + i = omega arith in
       let row : get_or s.words (i + 3) 0 ≡ get_or r.rows i 0 = ap₂ (λ ws (x : ℕ). get_or ws x 0) r.words front
@@ -185,8 +185,8 @@ module _ {S E : Type 0} (m : Means S E) where
           refl,
           refl,
           row ∙ (ap (λ l. get_or l i 0) all.is
-              ∙ (get_or-append (words_of me.0.journal) all.rest 0 i inside
-              ∙ ap (λ x. get_or (words_of me.0.journal) x 0) (sym back))),
+              ∙ (get_or-append (journal_words me.0.journal) all.rest 0 i inside
+              ∙ ap (λ x. get_or (journal_words me.0.journal) x 0) (sym back))),
         ),
       )
 
@@ -246,7 +246,7 @@ module _ {S E : Type 0} (m : Means S E) where
           rows = r.rows;
           words = ap (λ ws. set ws 1 (old + 1)) r.words ∙ (λ i. drawn_count m c ∷ more i ∷ bit c.turned ∷ r.rows);
           room = r.room;
-          shown = subst (λ (l : List ℕ). Begins r.rows (words_of c.journal ++ l)) (r.unfilled free) r.shown;
+          shown = subst (λ (l : List ℕ). Begins r.rows (journal_words c.journal ++ l)) (r.unfilled free) r.shown;
           home = home_pen c true id [] c.turned s.homes r.home;
           legal = r.legal;
           recent = r.recent;
@@ -292,7 +292,7 @@ module _ {S E : Type 0} (m : Means S E) where
             packed = r.packed;
             room =
                 let b = begins_length r.shown in
-                let l = length-append (words_of c.journal) c.filled in let rm = r.room in omega arith;
+                let l = length-append (journal_words c.journal) c.filled in let rm = r.room in omega arith;
           }),
           (λ miss. absurd (miss hit)),
         ),
@@ -311,9 +311,9 @@ module _ {S E : Type 0} (m : Means S E) where
   fills slots id me i x has is room s r _ at _ =
       let c = r.core in
       let f = r.fits id me.0 at in let p = f.pen has in let n : ℕ = rows_of me.0.journal + length me.0.filled in
-      let front : List ℕ = words_of c.journal ++ c.filled in
+      let front : List ℕ = journal_words c.journal ++ c.filled in
       let long : n ≡ length front = ap₂ (λ (js : List Batch) (l : List ℕ). rows_of js + length l) p.journal p.filled
-      ∙ sym (length-append (words_of c.journal) c.filled) in
+      ∙ sym (length-append (journal_words c.journal) c.filled) in
       let l' : List ℕ = c.filled ++ x ∷ [] in
       let w : View E = record me.0 { filled = me.0.filled ++ x ∷ [] } in let c' : Core E = record c { filled = l' } in
       let far : i ≡ suc (suc (suc (length front))) = is
@@ -329,7 +329,7 @@ module _ {S E : Type 0} (m : Means S E) where
           words = ap₂ (λ ws (z : ℕ). set ws z x) r.words far;
           room = length-set r.rows (length front) x ∙ r.room;
           shown = let b = filled_in r.rows front x r.shown (let rm = r.room in omega arith) in
-              subst (Begins (set r.rows (length front) x)) (append_assoc (words_of c.journal) c.filled (x ∷ [])) b;
+              subst (Begins (set r.rows (length front) x)) (append_assoc (journal_words c.journal) c.filled (x ∷ [])) b;
           home = home_pen c c.penned c.penner l' c.turned s.homes r.home;
           legal = r.legal;
           recent = r.recent;
@@ -376,7 +376,7 @@ module _ {S E : Type 0} (m : Means S E) where
     home_longer c bs b p l false homes h = (h.0, h.1, h.2, longer h.0 c.journal bs h.3)
 
     pub publishes : (slots id : ℕ) (me : M) (x k : ℕ) (ks : List ℕ) (bs : List Batch) → me.0.pen ≡ true
-        → me.0.numbers ≡ k ∷ ks → me.0.told_numbers ≡ [] → me.0.filled ≡ words_of bs
+        → me.0.numbers ≡ k ∷ ks → me.0.told_numbers ≡ [] → me.0.filled ≡ journal_words bs
         → ((b : Batch) → Has b bs → b.task ≡ k) → ArePacked bs
         → x ≡ 2 * (rows_of me.0.journal + length me.0.filled)
         → Allows (Rule m) slots id me 1 (λ _. x) (λ _. published (step slots 1 x 0 none) me x)
@@ -385,17 +385,17 @@ module _ {S E : Type 0} (m : Means S E) where
         let w : View E = record me.0 { journal = me.0.journal ++ bs; pen = false; filled = [] } in
         let c' : Core E = record c { journal = c.journal ++ bs; penned = false; filled = [] } in
         let mine = f.owns k (subst (Has k) (sym named) here) in
-        let grown : words_of (c.journal ++ bs) ≡ words_of c.journal ++ c.filled = words-append c.journal bs
-        ∙ ap (λ (l : List ℕ). words_of c.journal ++ l) (sym whole ∙ p.filled) in
+        let grown : journal_words (c.journal ++ bs) ≡ journal_words c.journal ++ c.filled = words-append c.journal bs
+        ∙ ap (λ (l : List ℕ). journal_words c.journal ++ l) (sym whole ∙ p.filled) in
         let now : x ≡ 2 * rows_of (c.journal ++ bs) + bit false = is
         ∙ (let e : rows_of me.0.journal + length me.0.filled ≡ rows_of (c.journal ++ bs) = ap₂
         (λ (js : List Batch) (l : List ℕ). rows_of js + length l) p.journal p.filled
-        ∙ (sym (length-append (words_of c.journal) c.filled) ∙ ap length (sym grown)) in omega arith) in
+        ∙ (sym (length-append (journal_words c.journal) c.filled) ∙ ap length (sym grown)) in omega arith) in
         let long : length (c.journal ++ bs) ≡ length c.journal + length bs = length-append c.journal bs in
         let others : (y : ℕ) → y ≢ k
-        → batches_by y (c.journal ++ bs) ≡ batches_by y c.journal = λ y ne. those-append task_of y c.journal bs
+        → batches_by y (c.journal ++ bs) ≡ batches_by y c.journal = λ y ne. those-append task_of_batch y c.journal bs
         ∙ (ap (λ (l : List Batch). batches_by y c.journal ++ l)
-        (those_none task_of y bs (λ b h e. ne (sym e ∙ own b h))) ∙ append-nil (batches_by y c.journal)) in (
+        (those_none task_of_batch y bs (λ b h e. ne (sym e ∙ own b h))) ∙ append-nil (batches_by y c.journal)) in (
           w,
           keeps,
           tt,
@@ -404,7 +404,7 @@ module _ {S E : Type 0} (m : Means S E) where
             rows = r.rows;
             words = ap (λ ws. set ws 1 x) r.words ∙ (λ i. drawn_count m c ∷ now i ∷ bit c.turned ∷ r.rows);
             room = r.room;
-            shown = subst (Begins r.rows) (sym (append-nil (words_of (c.journal ++ bs)) ∙ grown)) r.shown;
+            shown = subst (Begins r.rows) (sym (append-nil (journal_words (c.journal ++ bs)) ∙ grown)) r.shown;
             home = home_longer c bs false c.penner [] c.turned s.homes r.home;
             legal = r.legal;
             recent = let u = r.recent in omega arith;

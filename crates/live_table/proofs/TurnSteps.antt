@@ -12,7 +12,7 @@ use Rattle.atomic_table.proofs.Lists.{exchanged}
 use Rattle.rules_spec.specs.declared.Batch.{Batch}
 use Rattle.live_table.specs.declared.view.View.{View}
 use Rattle.live_table.specs.Lists.{Begins, Has, here, there}
-use Rattle.live_table.specs.Batches.{rows_of, batches_by, task_of}
+use Rattle.live_table.specs.Batches.{rows_of, batches_by, task_of_batch}
 use Rattle.live_table.specs.Machines.{Means, makes, made, last_from, last_version, Next, LegalFrom, entries_by}
 use Rattle.live_table.specs.Core.{bit, Core, drawn_count, Home, HoldsTurn, Owns, Fits, Rule}
 use Rattle.live_table.specs.Plays.{took, gave, drew, MayGive, IsTurn, at_turn, given, enrolled}
@@ -404,11 +404,11 @@ module _ {S E : Type 0} (m : Means S E) where
       let old : (y : ℕ) → y < drawn_count m c
       → c'.owner y ≡ c.owner y = λ y l. rw (ne_eqb y n (let z = count in (λ e. omega arith))) in
       let new : c'.owner n ≡ id = rw (eq-eqb n n refl) in
-      let fresh : batches_by n c.journal ≡ [] = those_none task_of n c.journal
+      let fresh : batches_by n c.journal ≡ [] = those_none task_of_batch n c.journal
       (λ b h e. let low = r.tasks b h in omega arith) in
       let none_yet : entries_by m n c.history ≡ [] = those_none m.number n c.history
       (λ y h e. let low = legal_below 0 0 c.history y r.legal h in omega arith) in
-      let unseen : batches_by n me.0.journal ≡ [] = those_none task_of n me.0.journal
+      let unseen : batches_by n me.0.journal ≡ [] = those_none task_of_batch n me.0.journal
       (λ b g e. let low = r.tasks b (subst (Has b) (sym f.seen.is) (has_left f.seen.rest g)) in omega arith) in
       let up : drawn_count m c < n + 1 = omega arith in (
         w,

@@ -17,28 +17,28 @@ abbrev pub batch_words : Batch → List ℕ
 batch_words b = head_word b.task b.seq (length b.ops) ∷ map op_word b.ops
 
 -- the rows of a journal
-abbrev pub words_of : List Batch → List ℕ
-words_of [] = []
-words_of (b ∷ bs) = batch_words b ++ words_of bs
+abbrev pub journal_words : List Batch → List ℕ
+journal_words [] = []
+journal_words (b ∷ bs) = batch_words b ++ journal_words bs
 
 abbrev pub rows_of : List Batch → ℕ
-rows_of bs = length (words_of bs)
+rows_of bs = length (journal_words bs)
 
-abbrev pub task_of : Batch → ℕ
-task_of b = b.task
+abbrev pub task_of_batch : Batch → ℕ
+task_of_batch b = b.task
 
 -- the batches of one task, in order
 abbrev pub batches_by : ℕ → List Batch → List Batch
-batches_by = those_of task_of
+batches_by = those_of task_of_batch
 
 -- the row `at` parts a journal between two batches, or it is the first row or the end
 pub record Cut (journal front rest : List Batch) (at : ℕ) : Type 0 where
   pub is : journal ≡ front ++ rest
   pub rows : at ≡ rows_of front
 
-abbrev pub first_of : List Batch → Option Batch
-first_of [] = None
-first_of (b ∷ bs) = Some b
+abbrev pub first_batch : List Batch → Option Batch
+first_batch [] = None
+first_batch (b ∷ bs) = Some b
 
 -- the rows of the first batch, if there is one
 abbrev pub first_rows : List Batch → ℕ

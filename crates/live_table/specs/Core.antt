@@ -5,7 +5,7 @@ use Rattle.atomic_table.specs.Table.{State}
 use Rattle.rules_spec.specs.declared.Batch.{Batch}
 use Rattle.live_table.specs.declared.view.View.{View}
 use Rattle.live_table.specs.Lists.{Begins, Has}
-use Rattle.live_table.specs.Batches.{ArePacked, words_of, rows_of, batches_by}
+use Rattle.live_table.specs.Batches.{ArePacked, journal_words, rows_of, batches_by}
 use Rattle.live_table.specs.Machines.{Means, made, last_version, LegalFrom, entries_by}
 
 -- What the words, the slot and the views of a table tell together: the journal and the history; who has the pen, and
@@ -118,7 +118,7 @@ module _ {S E : Type 0} (m : Means S E) where
     pub rows : List ℕ
     pub words : s.words ≡ words_at core rows
     pub room : length rows ≡ row_count
-    pub shown : Begins rows (words_of core.journal ++ core.filled)
+    pub shown : Begins rows (journal_words core.journal ++ core.filled)
     pub home : Home core core.turned s.homes
     pub legal : LegalFrom m 0 0 core.history
     pub recent : last_version m core.history ≤ length core.journal

@@ -3,7 +3,7 @@ use Rattle.atomic_table.specs.Table.{Me, Step}
 use Rattle.rules_spec.specs.declared.Batch.{Batch}
 use Rattle.live_table.specs.declared.view.View.{View}
 use Rattle.live_table.specs.Lists.{Begins, Has}
-use Rattle.live_table.specs.Batches.{ArePacked, words_of, rows_of, batches_by}
+use Rattle.live_table.specs.Batches.{ArePacked, journal_words, rows_of, batches_by}
 use Rattle.live_table.specs.Machines.{Means, LegalFrom, made, last_version, entries_by}
 use Rattle.live_table.specs.Core.{row_count}
 
@@ -116,7 +116,7 @@ module _ {S E : Type 0} where
 
   -- the row is that of the seen journal, and it is one more that was loaded
   abbrev pub read : Telling S E
-  read st m r m' = (m'.1 ≡ m.1) × (m'.0 ≡ record m.0 { loads = m.0.loads + 1 }) × (r ≡ slice_index (words_of m.0.journal) (st.word - 3))
+  read st m r m' = (m'.1 ≡ m.1) × (m'.0 ≡ record m.0 { loads = m.0.loads + 1 }) × (r ≡ slice_index (journal_words m.0.journal) (st.word - 3))
 
   -- the pen was free, and is the seat's; or the word had changed
   abbrev pub penned : Telling S E
@@ -127,7 +127,7 @@ module _ {S E : Type 0} where
 
   -- what was filled is published, and the pen is given back
   abbrev pub published : Telling S E
-  published st m r m' = (m'.1 ≡ m.1) × ((bs : List Batch) → m.0.filled ≡ words_of bs → ArePacked bs
+  published st m r m' = (m'.1 ≡ m.1) × ((bs : List Batch) → m.0.filled ≡ journal_words bs → ArePacked bs
       → m'.0 ≡ record m.0 { journal = m.0.journal ++ bs; pen = false; filled = [] })
 
   -- the numbers of the seat are below what was found

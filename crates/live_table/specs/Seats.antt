@@ -4,7 +4,7 @@ use Rattle.atomic_table.specs.Table.{Me}
 use Rattle.rules_spec.specs.declared.Batch.{Batch}
 use Rattle.live_table.specs.declared.view.View.{View}
 use Rattle.live_table.specs.Lists.{Begins, Has, rest_of}
-use Rattle.live_table.specs.Batches.{ArePacked, words_of, rows_of, batches_by}
+use Rattle.live_table.specs.Batches.{ArePacked, journal_words, rows_of, batches_by}
 use Rattle.live_table.specs.Machines.{Means, LegalFrom, last_version, entries_by}
 use Rattle.live_table.specs.Core.{row_count}
 use Rattle.live_table.specs.Plays.{at_turn, loads_of}
@@ -69,7 +69,7 @@ Rests v = (v.pen ≡ false) × (v.turn ≡ false)
 -- filled rows that are whole batches of one task
 pub record AreWhole (filled : List ℕ) (number : ℕ) : Type 0 where
   pub batches : List Batch
-  pub words : filled ≡ words_of batches
+  pub words : filled ≡ journal_words batches
   pub own : (b : Batch) → Has b batches → b.task ≡ number
   pub packed : ArePacked batches
 

@@ -1,7 +1,7 @@
 ghost use Rattle.std.specs.Prelude.{◌≡◌, ◌≤◌, ◌<◌, ◌+◌, List, length, IfOk, IfSome, OnOk, OnErr};
 ghost use Rattle.smack_base.specs.declared.rule_op.RuleOp.{RuleOp};
 ghost use Rattle.rules_spec.specs.declared.Batch.{Batch};
-ghost use Rattle.live_table.specs.Batches.{words_of, rows_of, Cut, OpsAt, first_of, first_rows};
+ghost use Rattle.live_table.specs.Batches.{journal_words, rows_of, Cut, OpsAt, first_batch, first_rows};
 ghost use Rattle.live_table.specs.Core.{row_count};
 ghost use Rattle.live_table.specs.Seats.{with_loads};
 
@@ -24,9 +24,9 @@ impl<M: Machine> LiveTable<M> {
     ) -> Result<RuleOps, AllocError>
         requires table { seat.old.table ≡ self.now }
         requires room { at + len ≤ row_count }
-        requires ops { (ops : List RuleOp) × OpsAt (words_of seat.old.view.journal) at ops × (len ≡ length ops) }
+        requires ops { (ops : List RuleOp) × OpsAt (journal_words seat.old.view.journal) at ops × (len ≡ length ops) }
         ensures same { seat.new ≡ with_loads seat.new.view.loads seat.old }
-        ensures ops { (ops : List RuleOp) → OpsAt (words_of seat.old.view.journal) at ops → len ≡ length ops → IfOk result (λ r. r ≡ ops) }
+        ensures ops { (ops : List RuleOp) → OpsAt (journal_words seat.old.view.journal) at ops → len ≡ length ops → IfOk result (λ r. r ≡ ops) }
         ensures few { (seat.old.view.loads ≤ seat.new.view.loads) × (seat.new.view.loads ≤ seat.old.view.loads + len) }
         ensures loaded { OnOk result (seat.new.view.loads ≡ seat.old.view.loads + len) }
     {
@@ -53,7 +53,7 @@ impl<M: Machine> LiveTable<M> {
         requires table { seat.old.table ≡ self.now }
         requires cut { (front : List Batch) × (rest : List Batch) × Cut seat.old.view.journal front rest at }
         ensures same { seat.new ≡ with_loads seat.new.view.loads seat.old }
-        ensures batch { (front rest : List Batch) → Cut seat.old.view.journal front rest at → IfOk result (λ b. b ≡ first_of rest) }
+        ensures batch { (front rest : List Batch) → Cut seat.old.view.journal front rest at → IfOk result (λ b. b ≡ first_batch rest) }
         ensures some { OnErr result (at < rows_of seat.old.view.journal) }
         ensures room { IfOk result (λ b. IfSome b (λ batch. at + 1 + length batch.ops ≤ row_count)) }
         ensures few { (front rest : List Batch) → Cut seat.old.view.journal front rest at

@@ -1,7 +1,7 @@
 ghost use Rattle.std.specs.Prelude.{◌≡◌, ◌<◌, ◌+◌, ◌++◌, ◌∷◌, [], List, length, true, false};
 ghost use Rattle.std.specs.Bool.{OnTrue, OnFalse};
 ghost use Rattle.rules_spec.specs.declared.Batch.{Batch};
-ghost use Rattle.live_table.specs.Batches.{ArePacked, words_of, rows_of};
+ghost use Rattle.live_table.specs.Batches.{ArePacked, journal_words, rows_of};
 ghost use Rattle.live_table.specs.Core.{row_count};
 ghost use Rattle.live_table.specs.Plays.{with_pen};
 ghost use Rattle.live_table.specs.Seats.{AreWhole, Sees};
@@ -75,7 +75,7 @@ impl<M: Machine> LiveTable<M> {
         requires pen { seat.old.view.pen ≡ true }
         requires whole { AreWhole seat.old.view.filled seat.old.number }
         ensures same { (seat.new.table ≡ seat.old.table) × (seat.new.number ≡ seat.old.number) }
-        ensures published { (bs : List Batch) → seat.old.view.filled ≡ words_of bs → ArePacked bs
+        ensures published { (bs : List Batch) → seat.old.view.filled ≡ journal_words bs → ArePacked bs
             → seat.new.view ≡ record seat.old.view { journal = seat.old.view.journal ++ bs; pen = false; filled = [] } }
     {
         let rows = seat.rows + seat.filled;

@@ -1,5 +1,5 @@
 ghost use Rattle.std.specs.Prelude.{◌≡◌, ◌<◌, length, [], IfOk, slice_index, ◌+◌};
-ghost use Rattle.live_table.specs.Batches.{words_of, rows_of};
+ghost use Rattle.live_table.specs.Batches.{journal_words, rows_of};
 ghost use Rattle.live_table.specs.Core.{opening_view};
 ghost use Rattle.live_table.specs.Seats.{IsOpening, Sees, with_loads};
 
@@ -102,7 +102,7 @@ impl<M: Machine> LiveTable<M> {
         requires table { seat.old.table ≡ self.now }
         requires seen { at < rows_of seat.old.view.journal }
         ensures loaded { seat.new ≡ with_loads (seat.old.view.loads + 1) seat.old }
-        ensures word { result ≡ slice_index (words_of seat.old.view.journal) at }
+        ensures word { result ≡ slice_index (journal_words seat.old.view.journal) at }
     {
         self.table
             .shared

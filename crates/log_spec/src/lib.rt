@@ -9,7 +9,7 @@
 ghost use Rattle.log_spec.specs.Numerals.{NumeralsTell};
 
 /// What the system's log says that came of a check (Smack guide, the file `logging`).
-#[derive(Clone, Copy, Debug, PartialEq, Eq)]
+#[derive(Clone, Copy, PartialEq, Eq)]
 pub enum Action {
     /// It was allowed.
     Granted,

@@ -8,7 +8,7 @@ use std::marker::Model;
 
 /// Calls numbered from 1, of which a list says which fail. Calls after number 4,294,967,295 have no number and do not
 /// fail.
-#[derive(Debug, Drop)]
+#[derive(Drop)]
 pub struct Calls {
     made: u32,
     fails: Vec<u32>,

@@ -8,7 +8,7 @@ use std::alloc::Global;
 use std::marker::Model;
 
 /// Bytes in memory, which come without a fault. A contract sees the bytes left.
-#[derive(Debug, Drop)]
+#[derive(Drop)]
 pub struct CalmSource {
     bytes: Vec<u8>,
     at: usize,
@@ -60,7 +60,7 @@ impl Source for CalmSource {
 }
 
 /// Keeps the bytes that it takes, at most so many a call. A contract sees the bytes taken and the most.
-#[derive(Debug, Drop)]
+#[derive(Drop)]
 pub struct CalmSink {
     bytes: Vec<u8>,
     most: u32,

@@ -5,7 +5,7 @@
 //! a fault is answered only where the count rose. `read_all` reads a source to its end, `offer` offers a piece until
 //! all of it is taken. The sources and sinks over memory tell all, and fail at the calls that a list names; those over
 //! std's readers and writers tell no bytes. A `Gate` is told of each line of a script before it is run. The crate stands on
-//! std, and on `thiserror` for its errors.
+//! std alone.
 #![tactic(auto)]
 
 mod calls;

@@ -12,7 +12,7 @@ use std::alloc::Global;
 use std::marker::Model;
 
 /// Bytes in memory, whose reads fail where their numbers are listed. A contract sees the bytes left and the calls.
-#[derive(Debug, Drop)]
+#[derive(Drop)]
 pub struct MemSource {
     calm: CalmSource,
     calls: Calls,
@@ -68,7 +68,7 @@ impl Source for MemSource {
 
 /// Keeps the bytes that it takes, at most so many a call, and fails at the writes whose numbers are listed. A contract
 /// sees the bytes taken, the most and the calls.
-#[derive(Debug, Drop)]
+#[derive(Drop)]
 pub struct MemSink {
     calm: CalmSink,
     calls: Calls,

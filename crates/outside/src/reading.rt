@@ -5,19 +5,15 @@ ghost use Rattle.outside.specs.Reading.{taken_count, ReadsAtMost};
 
 use crate::source::Source;
 use std::alloc::Global;
-use thiserror::Error;
 
 /// Why a source was not read to its end.
-#[derive(Clone, Copy, Debug, PartialEq, Eq, Error)]
+#[derive(Clone, Copy, Debug, PartialEq, Eq)]
 pub enum Unread {
     /// A read failed, and the source's count of faults rose.
-    #[error("a read failed")]
     Failed,
     /// More bytes came than may.
-    #[error("too many bytes")]
     TooMany,
     /// There was no memory for the bytes.
-    #[error("out of memory")]
     Memory,
 }
 

@@ -2,16 +2,12 @@ ghost use Rattle.std.specs.Prelude.{◌≡◌, ◌≢◌, ◌<◌, ◌≤◌, �
 ghost use Rattle.outside.specs.Faults.{Rose};
 ghost use Rattle.outside.specs.Sink.{Appends};
 
-use thiserror::Error;
-
 /// Why nothing of a piece was taken.
-#[derive(Clone, Copy, Debug, PartialEq, Eq, Error)]
+#[derive(Clone, Copy, Debug, PartialEq, Eq)]
 pub enum SinkFault {
     /// The write failed, and the sink's count of faults rose.
-    #[error("a write failed")]
     Failed,
     /// There was no memory for the bytes.
-    #[error("out of memory")]
     Memory,
 }
 

@@ -39,13 +39,13 @@ with_task tasks t =
     if list_any (λ u. u.number == t.number) tasks then tasks
     else insert tasks (position_or_len (λ u. nat_lt t.number u.number) tasks) t
 
-abbrev pub with_child : List NumberedTask → Option NumberedTask → List NumberedTask
-with_child tasks None = tasks
-with_child tasks (Some t) = with_task tasks t
+abbrev pub with_made_task : List NumberedTask → Option NumberedTask → List NumberedTask
+with_made_task tasks None = tasks
+with_made_task tasks (Some t) = with_task tasks t
 
 abbrev pub first_task : NumberedTask
 first_task = record { number = 0; pid = record { 0 = 0 } }
 
 -- the tasks of a run by rising number: the first, and those that its entries made
 abbrev pub run_tasks : List Entry → List NumberedTask
-run_tasks history = fold (λ tasks e. with_child tasks (numbered_child e)) (first_task ∷ []) history
+run_tasks history = fold (λ tasks e. with_made_task tasks (numbered_child e)) (first_task ∷ []) history

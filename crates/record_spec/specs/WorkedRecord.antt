@@ -15,15 +15,15 @@ use Rattle.record_spec.specs.declared.AskedWhat.TheVariants as AskedWhat
 use Rattle.record_spec.specs.declared.RunRecord.{RunRecord}
 use Rattle.record_spec.specs.Show.{labels_shown, names_shown}
 
-abbrev pub label : ℕ → LabelId
-label n = record { 0 = n }
+abbrev pub numbered_label : ℕ → LabelId
+numbered_label n = record { 0 = n }
 
 abbrev pub task_pid : ℕ → Pid
 task_pid n = record { 0 = n }
 
 -- `init` writes a rule on A and B and forks `tom`, whose signal to `init` is denied; `init` waits for `tom`
 abbrev pub worked_batch : Batch
-worked_batch = record { task = 0; seq = 1; ops = RuleOp.Set (label 1) (label 2) no_modes ∷ [] }
+worked_batch = record { task = 0; seq = 1; ops = RuleOp.Set (numbered_label 1) (numbered_label 2) no_modes ∷ [] }
 
 abbrev pub worked_fork : Entry
 worked_fork = record {
@@ -36,7 +36,7 @@ worked_fork = record {
 }
 
 abbrev pub worked_check : Verdict
-worked_check = record { allowed = false; case = 7; over = 0; subject = label 2; object = label 0; modes = no_modes }
+worked_check = record { allowed = false; case = 7; over = 0; subject = numbered_label 2; object = numbered_label 0; modes = no_modes }
 
 abbrev pub worked_kill : Entry
 worked_kill = record {
@@ -63,5 +63,5 @@ worked_record = record {
 -- its text shows A and B in the rule, then B and _ in the check, and again in the line of the system's log; and it names
 -- the two tasks in their lines, then each where it is forked, signalled and waited for
 pub record ShowsInOrder : Type 0 where
-  pub labels : labels_shown worked_record ≡ map label (1 ∷ 2 ∷ 2 ∷ 0 ∷ 2 ∷ 0 ∷ [])
+  pub labels : labels_shown worked_record ≡ map numbered_label (1 ∷ 2 ∷ 2 ∷ 0 ∷ 2 ∷ 0 ∷ [])
   pub names : names_shown worked_record ≡ map task_pid (0 ∷ 1 ∷ 1 ∷ 0 ∷ 1 ∷ [])

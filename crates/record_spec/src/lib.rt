@@ -17,7 +17,7 @@ use std::alloc::AllocError;
 use world_spec::Trail;
 
 /// What a line that is neither a batch nor an object call did, with its answer.
-#[derive(Debug, Drop)]
+#[derive(Drop)]
 pub enum AskedWhat {
     /// A question on a subject, an object and modes.
     Ask(Verdict),
@@ -41,7 +41,7 @@ impl Duplicate for AskedWhat {
 }
 
 /// A line that is neither a batch nor an object call.
-#[derive(Debug, Drop)]
+#[derive(Drop)]
 pub struct AskedLine {
     /// The number of the task, from 0.
     pub task: u16,
@@ -83,7 +83,7 @@ pub struct RunRecord {
 }
 
 /// A task of a run.
-#[derive(Clone, Copy, Debug, PartialEq, Eq)]
+#[derive(Clone, Copy, PartialEq, Eq)]
 pub struct NumberedTask {
     /// The number that the run gave it, from 0.
     pub number: u16,

@@ -10,7 +10,7 @@ use Rattle.text_spec.specs.RuleTexts.{RuleWords, line_answer, subject_answer, an
 use Rattle.rule_text.specs.declared.counted.Skipped.{Skipped}
 use Rattle.rule_text.specs.declared.counted.Skipped.TheVariants as Skipped
 use Rattle.rule_text.specs.Slices.{line_part}
-use Rattle.rule_text.specs.Counted.{NumberedLine, is_skipped, numbered, skipped_by}
+use Rattle.rule_text.specs.Counted.{NumberedLine, is_skipped_as, numbered, skipped_by}
 
 both_more : (n m : ℕ) → nat_eq (1 + n) (suc m) ≡ nat_eq n m
 both_more n m = grind (arith, nat_tests)
@@ -41,7 +41,7 @@ plain p = record { at = p.at; bytes = p.bytes; ended = false }
 
 -- the lines that are skipped are those that give no answer; what ends a line does not matter
 record IsCounted {A : Type 0} (skipped : Skipped) (answer : ℕ → TextLine → Option (Result A BadLine)) : Type 0 where
-  pub skips : (n : ℕ) (l : TextLine) → is_skipped skipped (line_part l) ≡ true → answer n l ≡ None
+  pub skips : (n : ℕ) (l : TextLine) → is_skipped_as skipped (line_part l) ≡ true → answer n l ≡ None
   pub same : (n : ℕ) (l : TextLine) → answer n l ≡ answer n (plain (line_part l))
 
 abbrev judged : {A : Type 0} → (ℕ → TextLine → Option (Result A BadLine)) → List NumberedLine → List (Result A BadLine)
@@ -53,7 +53,7 @@ as_counted : {A : Type 0} (skipped : Skipped) (answer : ℕ → TextLine → Opt
     → answers_from answer n ls ≡ judged answer (numbered skipped n ls)
 as_counted skipped answer is n [] = refl
 as_counted skipped answer is n (l ∷ ls) =
-    elim (cases_Bool (is_skipped skipped (line_part l))) [
+    elim (cases_Bool (is_skipped_as skipped (line_part l))) [
       | inl e ↦ simp e (ap (λ a. before_more a (answers_from answer (n + 1) ls)) (is.skips n l e) ∙ as_counted skipped answer is (n + 1) ls)
       | inr e ↦ simp e (ap (λ a. before_more a (answers_from answer (n + 1) ls)) (is.same n l) ∙ ap (before_more (answer n (plain (line_part l)))) (as_counted skipped answer is (n + 1) ls))
     ]
@@ -75,22 +75,22 @@ subjects_counted : IsCounted Skipped.Bare subject_answer
 subjects_counted = record { skips = λ n l e. bare_none (blank_words l) (subject_line n (blank_words l)) e; same = λ n l. refl }
 
 -- the answer of a line that is not skipped
-pub long_some : (form : RuleForm) → form ≡ RuleForm.Long → (n : ℕ) (l : TextLine) → is_skipped (skipped_by form) (line_part l) ≡ false
+pub long_some : (form : RuleForm) → form ≡ RuleForm.Long → (n : ℕ) (l : TextLine) → is_skipped_as (skipped_by form) (line_part l) ≡ false
     → Some (long_line n (blank_words l)) ≡ line_answer form n l
 long_some form is n l e = rw is (word_some (blank_words l) (long_line n (blank_words l)) (rw is at e))
 
-pub change_some : (form : RuleForm) → form ≡ RuleForm.Change → (n : ℕ) (l : TextLine) → is_skipped (skipped_by form) (line_part l) ≡ false
+pub change_some : (form : RuleForm) → form ≡ RuleForm.Change → (n : ℕ) (l : TextLine) → is_skipped_as (skipped_by form) (line_part l) ≡ false
     → Some (change_line n (blank_words l)) ≡ line_answer form n l
 change_some form is n l e = rw is (word_some (blank_words l) (change_line n (blank_words l)) (rw is at e))
 
-pub short_some : (form : RuleForm) → form ≡ RuleForm.Short → (n : ℕ) (l : TextLine) → is_skipped (skipped_by form) (line_part l) ≡ false
+pub short_some : (form : RuleForm) → form ≡ RuleForm.Short → (n : ℕ) (l : TextLine) → is_skipped_as (skipped_by form) (line_part l) ≡ false
     → Some (short_line n l) ≡ line_answer form n l
 short_some form is n l e = rw is (some (rw is at e))
   where
-    some : is_skipped Skipped.Empty (line_part l) ≡ false → Some (short_line n l) ≡ line_answer RuleForm.Short n l
+    some : is_skipped_as Skipped.Empty (line_part l) ≡ false → Some (short_line n l) ≡ line_answer RuleForm.Short n l
     some e = simp e refl
 
-pub subject_some : (n : ℕ) (l : TextLine) → is_skipped Skipped.Bare (line_part l) ≡ false → Some (subject_line n (blank_words l)) ≡ subject_answer n l
+pub subject_some : (n : ℕ) (l : TextLine) → is_skipped_as Skipped.Bare (line_part l) ≡ false → Some (subject_line n (blank_words l)) ≡ subject_answer n l
 subject_some n l e = word_some (blank_words l) (subject_line n (blank_words l)) e
 
 first_answer : {A : Type 0} (skipped : Skipped) (answer : ℕ → TextLine → Option (Result A BadLine)) → IsCounted skipped answer

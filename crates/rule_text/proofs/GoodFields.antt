@@ -16,7 +16,7 @@ use Rattle.text_spec.specs.declared.RuleForm.TheVariants as RuleForm
 use Rattle.text_spec.specs.Texts.{Placed, TextLine}
 use Rattle.text_spec.specs.RuleTexts.{RuleWords, unless_fault, first_fault, unless_bare, line_answer, long_line, change_line, short_line, short_fields, short_label_fault, is_short_letter, short_bad_letter, blank_words, field, deny_fault}
 use Rattle.rule_text.specs.declared.rule_line.RuleLine.{RuleLine}
-use Rattle.rule_text.specs.RuleAnswers.{seen, IsGood}
+use Rattle.rule_text.specs.RuleAnswers.{answer_seen, IsGood}
 
 -- the fields of a line, as runs of bytes, have no fault
 pub record AreGood (r : RuleWords) : Type 0 where
@@ -122,7 +122,7 @@ answer_good RuleForm.Short n l r e =
     ]
 
 -- a good line that is read has good fields
-pub good_read : (form : RuleForm) (n : ℕ) (l : TextLine) (read : Option (Result RuleLine BadLine)) → option_map seen read ≡ line_answer form n l
+pub good_read : (form : RuleForm) (n : ℕ) (l : TextLine) (read : Option (Result RuleLine BadLine)) → option_map answer_seen read ≡ line_answer form n l
     → IfSome read IsGood
 good_read form n l None e = tt
 good_read form n l (Some (Err b)) e = tt

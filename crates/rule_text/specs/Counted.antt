@@ -9,9 +9,9 @@ use Rattle.rule_text.specs.declared.counted.Skipped.TheVariants as Skipped
 use Rattle.rule_text.specs.declared.counted.CountedLine.{CountedLine}
 
 -- whether a line is skipped
-abbrev pub is_skipped : Skipped → Placed → Bool
-is_skipped Skipped.Bare l = length (words_from is_blank l.at l.bytes) == 0
-is_skipped Skipped.Empty l = length l.bytes == 0
+abbrev pub is_skipped_as : Skipped → Placed → Bool
+is_skipped_as Skipped.Bare l = length (words_from is_blank l.at l.bytes) == 0
+is_skipped_as Skipped.Empty l = length l.bytes == 0
 
 -- the lines of a form that are skipped
 abbrev pub skipped_by : RuleForm → Skipped
@@ -28,7 +28,7 @@ pub record NumberedLine : Type 0 where
 abbrev pub numbered : Skipped → ℕ → List TextLine → List NumberedLine
 numbered skipped n [] = []
 numbered skipped n (l ∷ ls) =
-    if is_skipped skipped (line_part l) then numbered skipped (n + 1) ls
+    if is_skipped_as skipped (line_part l) then numbered skipped (n + 1) ls
     else (record { number = n; line = line_part l }) ∷ numbered skipped (n + 1) ls
 
 -- a line that was found

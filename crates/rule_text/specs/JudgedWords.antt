@@ -3,5 +3,5 @@ use Rattle.smack_base.specs.Labels.{label_fault}
 use Rattle.rule_text.specs.declared.words.JudgedWord.{JudgedWord}
 
 -- a word that is said to be a label has no fault
-abbrev pub IsJudged : JudgedWord → Type 0
-IsJudged w = w.is_label ≡ true → label_fault w.word.bytes.now ≡ None
+abbrev pub IsWordJudged : JudgedWord → Type 0
+IsWordJudged w = w.is_label ≡ true → label_fault w.word.bytes.now ≡ None

@@ -3,12 +3,12 @@ use Rattle.text_spec.specs.Texts.{is_blank}
 use Rattle.text_spec.specs.RuleTexts.{LineWord, line_words}
 use Rattle.rule_text.specs.declared.text_words.TextWords.{TextWords}
 use Rattle.rule_text.specs.declared.text_words.NextWord.{NextWord}
-use Rattle.rule_text.specs.Parts.{placed, end_of, lines_of, words_of}
+use Rattle.rule_text.specs.Parts.{placed, end_of, lines_of, part_words}
 
 -- the words that are left: of the rest of the line of this number, and of the lines behind it
 abbrev pub left_words : TextWords → List LineWord
 left_words w =
-    map (λ p. record { line = w.line; word = p }) (words_of is_blank w.rest)
+    map (λ p. record { line = w.line; word = p }) (part_words is_blank w.rest)
     ++ line_words (w.line + 1) (lines_of w.after)
 
 -- a word and the number of its line

@@ -19,9 +19,9 @@ fields_of r = record {
 }
 
 -- an answer, its fields as runs of bytes
-abbrev pub seen : Result RuleLine BadLine → Result RuleWords BadLine
-seen (Ok r) = Ok (fields_of r)
-seen (Err b) = Err b
+abbrev pub answer_seen : Result RuleLine BadLine → Result RuleWords BadLine
+answer_seen (Ok r) = Ok (fields_of r)
+answer_seen (Err b) = Err b
 
 -- a good line with modes to be taken away, unless they have a fault
 abbrev pub denying : Placed → RuleWords → Result RuleWords BadLine

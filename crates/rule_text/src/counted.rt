@@ -1,7 +1,7 @@
 ghost use Rattle.std.specs.Prelude.{◌≡◌, ◌≤◌, ◌+◌, ◌==◌, ◌∷◌, [], false, length, MatchOption, IfSome};
 ghost use Rattle.text_spec.specs.Texts.{is_blank};
-ghost use Rattle.rule_text.specs.Parts.{end_of, lines_of, placed, words_of};
-ghost use Rattle.rule_text.specs.Counted.{is_skipped as is_skipped_line, numbered, numbered_line};
+ghost use Rattle.rule_text.specs.Parts.{end_of, lines_of, placed, part_words};
+ghost use Rattle.rule_text.specs.Counted.{is_skipped_as as is_skipped_line, numbered, numbered_line};
 
 use crate::lines::split_line;
 use crate::part::Part;
@@ -9,7 +9,7 @@ use crate::words::{Separator, blank_len};
 use text_spec::BadLine;
 
 /// Which lines of a text are skipped.
-#[derive(Clone, Copy, Debug, PartialEq, Eq)]
+#[derive(Clone, Copy, PartialEq, Eq)]
 pub(crate) enum Skipped {
     /// Those without a word.
     Bare,
@@ -18,7 +18,7 @@ pub(crate) enum Skipped {
 }
 
 /// A line that is not skipped, its number, and what follows it.
-#[derive(Clone, Copy, Debug)]
+#[derive(Clone, Copy)]
 pub(crate) struct CountedLine<'a> {
     pub(crate) number: u32,
     pub(crate) line: Part<'a>,
@@ -36,7 +36,7 @@ pub(crate) struct Found<'a, T> {
 /// Whether a line has no word.
 #[tactic(auto, using(crate::proofs::CountedLines::bare_place))]
 fn is_bare(line: Part<'_>) -> bool
-    ensures { result ≡ (length (words_of is_blank line.entry) == 0) }
+    ensures { result ≡ (length (part_words is_blank line.entry) == 0) }
 {
     blank_len(Separator::Blank, line.bytes) == line.bytes.len()
 }

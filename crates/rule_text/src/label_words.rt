@@ -14,7 +14,7 @@ use text_spec::{BadLine, LineFault};
 
 /// The labels of a text, over all its lines, up to the first word that is none. A contract sees
 /// the answers that are still to come.
-#[derive(Debug, Drop)]
+#[derive(Drop)]
 pub struct LabelWords<'a> {
     left: TextWords<'a>,
 }

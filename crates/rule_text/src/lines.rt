@@ -1,7 +1,7 @@
 ghost use Rattle.std.specs.Prelude.{◌≡◌, ◌<◌, ◌≤◌, ◌+◌, ◌∷◌, [], length, take, drop, MatchOption, IfSome};
 ghost use Rattle.std.specs.List.{position_or_len};
 ghost use Rattle.text_spec.specs.Texts.{is_feed, whole_lines};
-ghost use Rattle.rule_text.specs.Parts.{Fits, end_of, lines_of, first_line};
+ghost use Rattle.rule_text.specs.Parts.{FitsPlaces, end_of, lines_of, first_text_line};
 
 use crate::part::Part;
 use memchr::memchr;
@@ -20,9 +20,9 @@ fn line_len(bytes: &[u8]) -> usize
 /// The first line of a text, without its line feed, and what follows it; None where there is no
 /// line.
 pub fn split_line<'a>(text: Part<'a>) -> Option<(Part<'a>, Part<'a>)>
-    requires { Fits text }
+    requires { FitsPlaces text }
     ensures lines { MatchOption result (lines_of text.entry ≡ [])
-        (λ p. lines_of text.entry ≡ first_line text.entry p.0 ∷ lines_of p.1) }
+        (λ p. lines_of text.entry ≡ first_text_line text.entry p.0 ∷ lines_of p.1) }
 
     ensures begins { IfSome result (λ p. p.0.at ≡ text.entry.at) }
     ensures ends { IfSome result (λ p. end_of p.1 ≡ end_of text.entry) }
@@ -44,7 +44,7 @@ pub fn split_line<'a>(text: Part<'a>) -> Option<(Part<'a>, Part<'a>)>
 /// The first n lines of a text, with their line feeds, and what follows them; None where there are
 /// fewer.
 pub fn split_lines<'a>(n: u32, text: Part<'a>) -> Option<(Part<'a>, Part<'a>)>
-    requires { Fits text }
+    requires { FitsPlaces text }
     ensures count { MatchOption result (length (lines_of text.entry) < n)
         (λ _. n ≤ length (lines_of text.entry)) }
 

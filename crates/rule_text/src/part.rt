@@ -1,5 +1,5 @@
 /// A slice of a text, and the place of its first byte in the text, in bytes from 0.
-#[derive(Clone, Copy, Debug)]
+#[derive(Clone, Copy)]
 pub struct Part<'a> {
     pub bytes: &'a [u8],
     pub at: u32,
@@ -7,7 +7,7 @@ pub struct Part<'a> {
 
 impl<'a> Part<'a> {
     ghost use Rattle.std.specs.Prelude.{◌≡◌, ◌+◌, ◌≤◌, [], length, take, drop};
-    ghost use Rattle.rule_text.specs.Parts.{Fits, end_of};
+    ghost use Rattle.rule_text.specs.Parts.{FitsPlaces, end_of};
 
     /// The first bytes of the part.
     pub(crate) fn front(self, len: usize) -> Part<'a>
@@ -24,7 +24,7 @@ impl<'a> Part<'a> {
     /// What follows the first bytes of the part.
     pub(crate) fn after(self, len: usize) -> Part<'a>
         requires within { len ≤ length self.bytes.now }
-        requires fits { Fits self }
+        requires fits { FitsPlaces self }
         ensures place { result.at ≡ self.entry.at + len }
         ensures bytes { result.bytes.now ≡ drop len self.entry.bytes.now }
     {
@@ -36,7 +36,7 @@ impl<'a> Part<'a> {
 
     /// The end of the part.
     pub(crate) fn end(self) -> Part<'a>
-        requires { Fits self }
+        requires { FitsPlaces self }
         ensures place { result.at ≡ end_of self.entry }
         ensures bytes { result.bytes.now ≡ [] }
     {

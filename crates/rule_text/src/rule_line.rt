@@ -1,7 +1,7 @@
 ghost use Rattle.std.specs.Prelude.{◌≡◌};
 ghost use Rattle.text_spec.specs.RuleTexts.{subject_fault, object_fault, allow_fault, deny_fault};
-ghost use Rattle.rule_text.specs.JudgedWords.{IsJudged};
-ghost use Rattle.rule_text.specs.Parts.{Fits, placed};
+ghost use Rattle.rule_text.specs.JudgedWords.{IsWordJudged};
+ghost use Rattle.rule_text.specs.Parts.{FitsPlaces, placed};
 
 use crate::part::Part;
 use crate::words::JudgedWord;
@@ -10,7 +10,7 @@ use text_spec::LineFault;
 
 /// A good line of rules: its number in the text, from 1, and its fields, each at its place in the
 /// text.
-#[derive(Clone, Copy, Debug)]
+#[derive(Clone, Copy)]
 pub struct RuleLine<'a> {
     pub line: u32,
     pub subject: Part<'a>,
@@ -39,7 +39,7 @@ pub(crate) fn fault_of_object(object: Part) -> Option<LineFault>
 }
 
 pub(crate) fn fault_of_allow(allow: Part) -> Option<LineFault>
-    requires { Fits allow }
+    requires { FitsPlaces allow }
     ensures { result ≡ allow_fault (placed allow.entry) }
 {
     match Modes::first_bad(allow.bytes) {
@@ -49,7 +49,7 @@ pub(crate) fn fault_of_allow(allow: Part) -> Option<LineFault>
 }
 
 pub(crate) fn fault_of_deny(deny: Part) -> Option<LineFault>
-    requires { Fits deny }
+    requires { FitsPlaces deny }
     ensures { result ≡ deny_fault (placed deny.entry) }
 {
     match Modes::first_bad(deny.bytes) {
@@ -59,7 +59,7 @@ pub(crate) fn fault_of_deny(deny: Part) -> Option<LineFault>
 }
 
 pub(crate) fn fault_of_judged_subject(subject: JudgedWord) -> Option<LineFault>
-    requires { IsJudged subject }
+    requires { IsWordJudged subject }
     ensures { result ≡ subject_fault (placed subject.entry.word) }
 {
     if subject.is_label {
@@ -70,7 +70,7 @@ pub(crate) fn fault_of_judged_subject(subject: JudgedWord) -> Option<LineFault>
 }
 
 pub(crate) fn fault_of_judged_object(object: JudgedWord) -> Option<LineFault>
-    requires { IsJudged object }
+    requires { IsWordJudged object }
     ensures { result ≡ object_fault (placed object.entry.word) }
 {
     if object.is_label {

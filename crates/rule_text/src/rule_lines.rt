@@ -3,8 +3,8 @@ ghost use Rattle.text_spec.specs.Texts.{lines_from};
 ghost use Rattle.rule_text.specs.Slices.{LiesInItsLine};
 ghost use Rattle.text_spec.specs.RuleTexts.{line_answer, line_answers, rule_answers, before_more};
 ghost use Rattle.rule_text.specs.Parts.{end_of, lines_of, placed, as_line};
-ghost use Rattle.rule_text.specs.Counted.{is_skipped, skipped_by as skipped_by_form};
-ghost use Rattle.rule_text.specs.RuleAnswers.{seen, IsGood};
+ghost use Rattle.rule_text.specs.Counted.{is_skipped_as, skipped_by as skipped_by_form};
+ghost use Rattle.rule_text.specs.RuleAnswers.{answer_seen, IsGood};
 
 use crate::counted::{Found, Skipped, first_counted};
 use crate::part::Part;
@@ -16,7 +16,7 @@ use text_spec::{BadLine, RuleForm};
 
 /// The lines of a text of rules, in order, up to the first bad one. A contract sees the answers
 /// that are still to come.
-#[derive(Debug, Drop)]
+#[derive(Drop)]
 pub struct RuleLines<'a> {
     form: RuleForm,
     line: u32,
@@ -49,8 +49,8 @@ fn skipped_by(form: RuleForm) -> Skipped
 /// What a line of this form is that is not skipped.
 fn read_line<'a>(form: RuleForm, line: u32, text: Part<'a>) -> Result<RuleLine<'a>, BadLine>
     requires fits { end_of text ≤ 65536 }
-    requires is { is_skipped (skipped_by_form form) (placed text) ≡ false }
-    ensures answer { Some (seen result) ≡ line_answer form line (as_line text.entry) }
+    requires is { is_skipped_as (skipped_by_form form) (placed text) ≡ false }
+    ensures answer { Some (answer_seen result) ≡ line_answer form line (as_line text.entry) }
     ensures good { IsGood result }
 {
     match form {
@@ -66,7 +66,7 @@ fn first_answer<'a>(form: RuleForm, line: u32, text: Part<'a>) -> Option<Found<'
     requires fits { end_of text ≤ 65536 }
     ensures answers { let all = line_answers form line (lines_of text.entry) in
         MatchOption result (all ≡ [])
-        (λ f. all ≡ before_more (Some (seen f.answer))
+        (λ f. all ≡ before_more (Some (answer_seen f.answer))
         (line_answers form f.line (lines_of f.rest))) }
     ensures good { IfSome result (λ f. IsGood f.answer) }
     ensures count { IfSome result (λ f. f.line + length f.rest.bytes.now ≤ 65537) }
@@ -102,7 +102,7 @@ impl<'a> RuleLines<'a> {
     /// behind a bad one.
     pub fn next(&mut self) -> Option<Result<RuleLine<'a>, BadLine>>
         ensures answer { MatchOption result ((self.old ≡ []) × (self.new ≡ []))
-            (λ r. self.old ≡ seen r ∷ self.new) }
+            (λ r. self.old ≡ answer_seen r ∷ self.new) }
         ensures good { IfSome result IsGood }
     {
         let Some(found) = first_answer(self.form, self.line, self.rest) else {

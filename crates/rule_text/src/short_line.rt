@@ -1,8 +1,8 @@
 ghost use Rattle.std.specs.Prelude.{◌≡◌, ◌<◌, ◌≤◌, ◌+◌, not, length, position, reverse, IfSome};
 ghost use Rattle.text_spec.specs.Texts.{is_space};
 ghost use Rattle.text_spec.specs.RuleTexts.{front_spaces, trimmed, field, short_label_fault, is_short_letter as is_letter_of_short, short_bad_letter, short_fields, short_line};
-ghost use Rattle.rule_text.specs.Parts.{Fits, end_of, placed, as_line};
-ghost use Rattle.rule_text.specs.RuleAnswers.{seen};
+ghost use Rattle.rule_text.specs.Parts.{FitsPlaces, end_of, placed, as_line};
+ghost use Rattle.rule_text.specs.RuleAnswers.{answer_seen};
 
 use crate::part::Part;
 use crate::rule_line::RuleLine;
@@ -30,7 +30,7 @@ fn end_spaces(bytes: &[u8]) -> usize
 
 /// The field without the spaces at both ends.
 fn trim<'a>(field: Part<'a>) -> Part<'a>
-    requires { Fits field }
+    requires { FitsPlaces field }
     ensures bytes { placed result ≡ trimmed (placed field.entry) }
     ensures within { end_of result ≤ end_of field.entry }
 {
@@ -41,7 +41,7 @@ fn trim<'a>(field: Part<'a>) -> Part<'a>
 /// The field of this length at this offset of a line.
 fn field_at<'a>(line: Part<'a>, from: usize, len: usize) -> Part<'a>
     requires within { from + len ≤ length line.bytes.now }
-    requires fits { Fits line }
+    requires fits { FitsPlaces line }
     ensures bytes { placed result ≡ field from len (as_line line.entry) }
     ensures within { end_of result ≤ end_of line.entry }
 {
@@ -79,8 +79,8 @@ fn judge_short<'a>(
     object: Part<'a>,
     allow: Part<'a>,
 ) -> Result<RuleLine<'a>, BadLine>
-    requires { Fits allow }
-    ensures { seen result ≡
+    requires { FitsPlaces allow }
+    ensures { answer_seen result ≡
         short_fields line (placed subject.entry) (placed object.entry) (placed allow.entry) }
 {
     if let Some(fault) = fault_of_short_label(subject.bytes) {
@@ -112,8 +112,8 @@ fn judge_short<'a>(
 
 /// A line of 53 bytes: subject 24, object 24, access 5.
 pub(crate) fn read_short<'a>(line: u32, text: Part<'a>) -> Result<RuleLine<'a>, BadLine>
-    requires { Fits text }
-    ensures { seen result ≡ short_line line (as_line text.entry) }
+    requires { FitsPlaces text }
+    ensures { answer_seen result ≡ short_line line (as_line text.entry) }
 {
     if text.bytes.len() == 53 {
         return judge_short(

@@ -2,7 +2,7 @@ ghost use Rattle.std.specs.Prelude.{◌≡◌, ◌≤◌, ◌+◌, ◌∷◌, []
 ghost use Rattle.text_spec.specs.Texts.{is_blank, lines_from};
 ghost use Rattle.rule_text.specs.Slices.{LiesInALine};
 ghost use Rattle.text_spec.specs.RuleTexts.{subject_line, subject_answers_from, subject_answers, before_more};
-ghost use Rattle.rule_text.specs.Parts.{Fits, end_of, lines_of, placed, words_of};
+ghost use Rattle.rule_text.specs.Parts.{FitsPlaces, end_of, lines_of, placed, part_words};
 ghost use Rattle.rule_text.specs.LabelAnswers.{seen_word, IsGoodLabel};
 
 use crate::counted::{Found, Skipped, first_counted};
@@ -14,7 +14,7 @@ use text_spec::{BadLine, LineFault};
 
 /// The subjects of a text that has one in each line, in order, up to the first bad line. A contract
 /// sees the answers that are still to come.
-#[derive(Debug, Drop)]
+#[derive(Drop)]
 pub struct SubjectLines<'a> {
     line: u32,
     rest: Part<'a>,
@@ -60,8 +60,8 @@ fn judge_subject<'a>(line: u32, subject: Part<'a>) -> Result<Part<'a>, BadLine>
 
 /// A line of one subject.
 fn read_subject<'a>(line: u32, text: Part<'a>) -> Result<Part<'a>, BadLine>
-    requires { Fits text }
-    ensures answer { seen_word result ≡ subject_line line (words_of is_blank text.entry) }
+    requires { FitsPlaces text }
+    ensures answer { seen_word result ≡ subject_line line (part_words is_blank text.entry) }
     ensures good { IsGoodLabel result }
 {
     let Some((subject, rest)) = split_word(text, Separator::Blank) else {

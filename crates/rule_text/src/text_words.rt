@@ -7,7 +7,7 @@ use crate::part::Part;
 use crate::words::{Separator, split_word};
 
 /// The words that are left of a text: those of the rest of a line, and of the lines behind it.
-#[derive(Clone, Copy, Debug)]
+#[derive(Clone, Copy)]
 pub(crate) struct TextWords<'a> {
     line: u32,
     rest: Part<'a>,
@@ -15,7 +15,7 @@ pub(crate) struct TextWords<'a> {
 }
 
 /// A word of a text, the number of its line, and the words behind it.
-#[derive(Clone, Copy, Debug)]
+#[derive(Clone, Copy)]
 pub(crate) struct NextWord<'a> {
     pub(crate) line: u32,
     pub(crate) word: Part<'a>,

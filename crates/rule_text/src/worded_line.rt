@@ -1,9 +1,9 @@
 ghost use Rattle.std.specs.Prelude.{◌≡◌, ◌∷◌, []};
 ghost use Rattle.text_spec.specs.Texts.{is_blank};
 ghost use Rattle.text_spec.specs.RuleTexts.{long_line, change_line};
-ghost use Rattle.rule_text.specs.JudgedWords.{IsJudged};
-ghost use Rattle.rule_text.specs.Parts.{Fits, placed, words_of};
-ghost use Rattle.rule_text.specs.RuleAnswers.{seen, fields_of, denying};
+ghost use Rattle.rule_text.specs.JudgedWords.{IsWordJudged};
+ghost use Rattle.rule_text.specs.Parts.{FitsPlaces, placed, part_words};
+ghost use Rattle.rule_text.specs.RuleAnswers.{answer_seen, fields_of, denying};
 
 use crate::part::Part;
 use crate::rule_line::{
@@ -27,10 +27,10 @@ fn judge_long<'a>(
     object: JudgedWord<'a>,
     allow: Part<'a>,
 ) -> Result<RuleLine<'a>, BadLine>
-    requires fits { Fits allow }
-    requires subject { IsJudged subject }
-    requires object { IsJudged object }
-    ensures { seen result ≡ long_line line
+    requires fits { FitsPlaces allow }
+    requires subject { IsWordJudged subject }
+    requires object { IsWordJudged object }
+    ensures { answer_seen result ≡ long_line line
         (placed subject.entry.word ∷ placed object.entry.word ∷ placed allow.entry ∷ []) }
 {
     if let Some(fault) = fault_of_judged_subject(subject) {
@@ -53,8 +53,8 @@ fn judge_long<'a>(
 
 /// A line of subject, object and access.
 pub(crate) fn read_long<'a>(line: u32, text: Part<'a>) -> Result<RuleLine<'a>, BadLine>
-    requires { Fits text }
-    ensures { seen result ≡ long_line line (words_of is_blank text.entry) }
+    requires { FitsPlaces text }
+    ensures { answer_seen result ≡ long_line line (part_words is_blank text.entry) }
 {
     let Some((subject, rest)) = split_label(text) else {
         return wrong_fields(line, 0);
@@ -72,8 +72,8 @@ pub(crate) fn read_long<'a>(line: u32, text: Part<'a>) -> Result<RuleLine<'a>, B
 }
 
 fn with_deny<'a>(rule: RuleLine<'a>, deny: Part<'a>) -> Result<RuleLine<'a>, BadLine>
-    requires { Fits deny }
-    ensures { seen result ≡ denying (placed deny.entry) (fields_of rule.entry) }
+    requires { FitsPlaces deny }
+    ensures { answer_seen result ≡ denying (placed deny.entry) (fields_of rule.entry) }
 {
     match fault_of_deny(deny) {
         Some(fault) => Err(BadLine {
@@ -94,11 +94,11 @@ fn judge_change<'a>(
     allow: Part<'a>,
     deny: Part<'a>,
 ) -> Result<RuleLine<'a>, BadLine>
-    requires allow_fits { Fits allow }
-    requires deny_fits { Fits deny }
-    requires subject { IsJudged subject }
-    requires object { IsJudged object }
-    ensures { seen result ≡ change_line line
+    requires allow_fits { FitsPlaces allow }
+    requires deny_fits { FitsPlaces deny }
+    requires subject { IsWordJudged subject }
+    requires object { IsWordJudged object }
+    ensures { answer_seen result ≡ change_line line
         (placed subject.entry.word ∷ placed object.entry.word ∷ placed allow.entry ∷ placed deny.entry ∷ []) }
 {
     match judge_long(line, subject, object, allow) {
@@ -109,8 +109,8 @@ fn judge_change<'a>(
 
 /// A line of subject, object, allow and deny.
 pub(crate) fn read_change<'a>(line: u32, text: Part<'a>) -> Result<RuleLine<'a>, BadLine>
-    requires { Fits text }
-    ensures { seen result ≡ change_line line (words_of is_blank text.entry) }
+    requires { FitsPlaces text }
+    ensures { answer_seen result ≡ change_line line (part_words is_blank text.entry) }
 {
     let Some((subject, rest)) = split_label(text) else {
         return wrong_fields(line, 0);

@@ -2,15 +2,15 @@ ghost use Rattle.std.specs.Prelude.{◌≡◌, ◌<◌, ◌≤◌, ◌+◌, ◌�
 ghost use Rattle.std.specs.List.{position_or_len};
 ghost use Rattle.smack_base.specs.Labels.{is_label_byte, label_fault, begins_with_dash as is_dash_in_front};
 ghost use Rattle.text_spec.specs.Texts.{is_blank, begins_word};
-ghost use Rattle.rule_text.specs.Parts.{Fits, end_of, placed, words_of};
-ghost use Rattle.rule_text.specs.JudgedWords.{IsJudged};
+ghost use Rattle.rule_text.specs.Parts.{FitsPlaces, end_of, placed, part_words};
+ghost use Rattle.rule_text.specs.JudgedWords.{IsWordJudged};
 ghost use Rattle.rule_text.specs.Separators.{separates};
 
 use crate::part::Part;
 use smack_base::Label;
 
 /// What parts the words of a line.
-#[derive(Clone, Copy, Debug, PartialEq, Eq)]
+#[derive(Clone, Copy, PartialEq, Eq)]
 pub enum Separator {
     /// A space.
     Space,
@@ -65,10 +65,10 @@ fn word_len(separator: Separator, bytes: &[u8]) -> usize
 
 /// The first word of a line, and what follows it; None where there is no word.
 pub fn split_word<'a>(line: Part<'a>, separator: Separator) -> Option<(Part<'a>, Part<'a>)>
-    requires { Fits line }
+    requires { FitsPlaces line }
     ensures words { let blank = separates separator in
-        MatchOption result (words_of blank line.entry ≡ [])
-        (λ p. words_of blank line.entry ≡ placed p.0 ∷ words_of blank p.1) }
+        MatchOption result (part_words blank line.entry ≡ [])
+        (λ p. part_words blank line.entry ≡ placed p.0 ∷ part_words blank p.1) }
     ensures long { IfSome result (λ p. 0 < length p.0.bytes.now) }
 
     ensures begins { IfSome result (λ p. line.entry.at ≤ p.0.at) }
@@ -88,8 +88,8 @@ pub fn split_word<'a>(line: Part<'a>, separator: Separator) -> Option<(Part<'a>,
 
 /// How many words stand in a line, parted by spaces or tabs.
 pub(crate) fn word_count(line: Part) -> u32
-    requires { Fits line }
-    ensures count { result ≡ length (words_of is_blank line.entry) }
+    requires { FitsPlaces line }
+    ensures count { result ≡ length (part_words is_blank line.entry) }
     ensures fewer { result ≤ length line.entry.bytes.now }
 {
     let mut rest = line;
@@ -102,7 +102,7 @@ pub(crate) fn word_count(line: Part) -> u32
 }
 
 /// A word, and whether it is known to be a label.
-#[derive(Clone, Copy, Debug)]
+#[derive(Clone, Copy)]
 pub(crate) struct JudgedWord<'a> {
     pub(crate) word: Part<'a>,
     pub(crate) is_label: bool,
@@ -164,10 +164,10 @@ fn judged_len(bytes: &[u8]) -> (usize, bool)
 /// The first word of a line, parted by spaces or tabs and judged as a label, and what follows it;
 /// None where there is no word.
 pub(crate) fn split_label<'a>(line: Part<'a>) -> Option<(JudgedWord<'a>, Part<'a>)>
-    requires { Fits line }
-    ensures words { MatchOption result (words_of is_blank line.entry ≡ [])
-        (λ p. words_of is_blank line.entry ≡ placed p.0.word ∷ words_of is_blank p.1) }
-    ensures label { IfSome result (λ p. IsJudged p.0) }
+    requires { FitsPlaces line }
+    ensures words { MatchOption result (part_words is_blank line.entry ≡ [])
+        (λ p. part_words is_blank line.entry ≡ placed p.0.word ∷ part_words is_blank p.1) }
+    ensures label { IfSome result (λ p. IsWordJudged p.0) }
     ensures ends { IfSome result (λ p. end_of p.1 ≡ end_of line.entry) }
     ensures falls { IfSome result (λ p. length p.1.bytes.now < length line.entry.bytes.now) }
 {

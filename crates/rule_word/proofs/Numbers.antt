@@ -1,7 +1,7 @@
 use Rattle.std.proofs.Common.{◌≡◌, ℕ, ◌+◌, ◌*◌, ◌/◌, ◌%◌, ◌<◌, ◌==◌, Bool, true, false, List, [], ◌∷◌, length, refl, ap, ap₂, ◌∙◌, arith}
 use Rattle.smack_base.specs.declared.modes.Modes.{Modes}
 use Rattle.rule_word.specs.Layout.{worth, flags_of, flags_number, modes_number}
-use Rattle.rule_word.specs.Fields.{flags_in, modes_by, modes_in}
+use Rattle.rule_word.specs.Fields.{flags_in, modes_by, modes_of_number}
 
 -- the lowest bit of a number is its first flag, and what is left of it is the number of the others
 first_back : (flag : Bool) (n : ℕ) → ((worth flag 1 + 2 * n) % 2 == 1) ≡ flag
@@ -36,5 +36,5 @@ pub modes_few : (m : Modes) → modes_number m < 64
 modes_few m = flags_few (flags_of m)
 
 -- the modes of the number of a set are the set
-pub modes_back : (m : Modes) → modes_in (modes_number m) ≡ m
+pub modes_back : (m : Modes) → modes_of_number (modes_number m) ≡ m
 modes_back m = ap modes_by (flags_back (flags_of m))

@@ -3,20 +3,20 @@ use Rattle.std.specs.Prelude.{Some}
 use Rattle.smack_base.specs.declared.modes.Modes.{Modes}
 use Rattle.smack_base.specs.declared.rule_op.RuleOp.{RuleOp}
 use Rattle.smack_base.specs.declared.rule_op.RuleOp.TheVariants as RuleOp
-use Rattle.rule_word.specs.Layout.{modes_number, word, op_word, IsPackable, head_word, IsHead}
+use Rattle.rule_word.specs.Layout.{modes_number, packed_word, op_word, IsPackable, head_word, IsHead}
 use Rattle.rule_word.specs.Fields.{tag_in, first_in, second_in, allow_in, deny_in, op_of_fields, op_in, task_in, seq_in, len_in}
 use Rattle.rule_word.proofs.Numbers.{modes_few, modes_back}
 
 module _ (tag first second allow deny : ℕ) where
   -- the fields of a word are those that it was made of
   fields_back : tag < 16 → first < 65536 → second < 65536 → allow < 256 → deny < 256
-      → op_in (word tag first second allow deny) ≡ op_of_fields tag first second allow deny
+      → op_in (packed_word tag first second allow deny) ≡ op_of_fields tag first second allow deny
   fields_back t f s a d =
-      let tag_is : tag_in (word tag first second allow deny) ≡ tag = omega arith in
-      let first_is : first_in (word tag first second allow deny) ≡ first = omega arith in
-      let second_is : second_in (word tag first second allow deny) ≡ second = omega arith in
-      let allow_is : allow_in (word tag first second allow deny) ≡ allow = omega arith in
-      let deny_is : deny_in (word tag first second allow deny) ≡ deny = omega arith in
+      let tag_is : tag_in (packed_word tag first second allow deny) ≡ tag = omega arith in
+      let first_is : first_in (packed_word tag first second allow deny) ≡ first = omega arith in
+      let second_is : second_in (packed_word tag first second allow deny) ≡ second = omega arith in
+      let allow_is : allow_in (packed_word tag first second allow deny) ≡ allow = omega arith in
+      let deny_is : deny_in (packed_word tag first second allow deny) ≡ deny = omega arith in
       λ i. op_of_fields (tag_is i) (first_is i) (second_is i) (allow_is i) (deny_is i)
 
 few : (m : Modes) → modes_number m < 256

@@ -36,21 +36,21 @@ modes_by flags = record {
 }
 
 -- the modes of a number, whatever stands above its six lowest bits
-abbrev pub modes_in : ℕ → Modes
-modes_in n = modes_by (flags_in 6 n)
+abbrev pub modes_of_number : ℕ → Modes
+modes_of_number n = modes_by (flags_in 6 n)
 
-abbrev pub label_in : ℕ → LabelId
-label_in n = record { 0 = n }
+abbrev pub label_of_number : ℕ → LabelId
+label_of_number n = record { 0 = n }
 
 -- the write that fields say, where their tag is that of one
 abbrev pub op_of_fields : ℕ → ℕ → ℕ → ℕ → ℕ → Option RuleOp
 op_of_fields tag first second allow deny =
-    if tag == 1 then Some (RuleOp.Set (label_in first) (label_in second) (modes_in allow))
-    else (if tag == 2 then Some (RuleOp.Change (label_in first) (label_in second) (modes_in allow) (modes_in deny))
-    else (if tag == 3 then Some (RuleOp.Revoke (label_in first))
+    if tag == 1 then Some (RuleOp.Set (label_of_number first) (label_of_number second) (modes_of_number allow))
+    else (if tag == 2 then Some (RuleOp.Change (label_of_number first) (label_of_number second) (modes_of_number allow) (modes_of_number deny))
+    else (if tag == 3 then Some (RuleOp.Revoke (label_of_number first))
     else (if tag == 4 then Some RuleOp.OnlyClear
-    else (if tag == 5 then Some (RuleOp.OnlyAdd (label_in first))
-    else (if tag == 6 then Some (RuleOp.Ambient (label_in first))
+    else (if tag == 5 then Some (RuleOp.OnlyAdd (label_of_number first))
+    else (if tag == 6 then Some (RuleOp.Ambient (label_of_number first))
     else (if tag == 7 then Some (RuleOp.Ptrace allow)
     else (if tag == 8 then Some (RuleOp.Logging allow) else None)))))))
 

@@ -22,20 +22,20 @@ modes_number m = flags_number (flags_of m)
 
 -- the word of a write, by its fields from the highest bit: tag 4 bits, first 16, second 16, allow 8, deny 8; the last
 -- 12 bits are 0
-abbrev pub word : ℕ → ℕ → ℕ → ℕ → ℕ → ℕ
-word tag first second allow deny =
+abbrev pub packed_word : ℕ → ℕ → ℕ → ℕ → ℕ → ℕ
+packed_word tag first second allow deny =
     tag * 2 ^ 60 + first * 2 ^ 44 + second * 2 ^ 28 + allow * 2 ^ 20 + deny * 2 ^ 12
 
 -- each kind of write has a tag; a field that it does not use is 0
 abbrev pub op_word : RuleOp → ℕ
-op_word (RuleOp.Set s o m) = word 1 s.0 o.0 (modes_number m) 0
-op_word (RuleOp.Change s o allow deny) = word 2 s.0 o.0 (modes_number allow) (modes_number deny)
-op_word (RuleOp.Revoke s) = word 3 s.0 0 0 0
-op_word RuleOp.OnlyClear = word 4 0 0 0 0
-op_word (RuleOp.OnlyAdd l) = word 5 l.0 0 0 0
-op_word (RuleOp.Ambient l) = word 6 l.0 0 0 0
-op_word (RuleOp.Ptrace n) = word 7 0 0 n 0
-op_word (RuleOp.Logging n) = word 8 0 0 n 0
+op_word (RuleOp.Set s o m) = packed_word 1 s.0 o.0 (modes_number m) 0
+op_word (RuleOp.Change s o allow deny) = packed_word 2 s.0 o.0 (modes_number allow) (modes_number deny)
+op_word (RuleOp.Revoke s) = packed_word 3 s.0 0 0 0
+op_word RuleOp.OnlyClear = packed_word 4 0 0 0 0
+op_word (RuleOp.OnlyAdd l) = packed_word 5 l.0 0 0 0
+op_word (RuleOp.Ambient l) = packed_word 6 l.0 0 0 0
+op_word (RuleOp.Ptrace n) = packed_word 7 0 0 n 0
+op_word (RuleOp.Logging n) = packed_word 8 0 0 n 0
 
 -- a label id is at most 65,534
 abbrev pub IsId : LabelId → Type 0

@@ -1,6 +1,6 @@
 ghost use Rattle.std.specs.Prelude.{◌≡◌, ◌<◌, ◌^◌};
 ghost use Rattle.rule_word.specs.Layout.{worth as worth_of, modes_number as modes_number_of};
-ghost use Rattle.rule_word.specs.Fields.{tag_in, first_in, second_in, allow_in, deny_in, modes_in};
+ghost use Rattle.rule_word.specs.Fields.{tag_in, first_in, second_in, allow_in, deny_in, modes_of_number};
 
 use smack_base::{LabelId, Modes};
 
@@ -25,7 +25,7 @@ pub(crate) fn modes_number(m: Modes) -> u8
 
 /// The modes of a number, whatever stands above its six lowest bits.
 fn modes_of(n: u8) -> Modes
-    ensures { result ≡ modes_in n }
+    ensures { result ≡ modes_of_number n }
 {
     Modes {
         read: n % 2 == 1,
@@ -67,14 +67,14 @@ pub(crate) fn number(word: u64) -> u8
 
 /// The modes of a word's third field.
 pub(crate) fn allowed(word: u64) -> Modes
-    ensures { result ≡ modes_in (allow_in word) }
+    ensures { result ≡ modes_of_number (allow_in word) }
 {
     modes_of(number(word))
 }
 
 /// The modes of a word's fourth field.
 pub(crate) fn denied(word: u64) -> Modes
-    ensures { result ≡ modes_in (deny_in word) }
+    ensures { result ≡ modes_of_number (deny_in word) }
 {
     modes_of(((word >> 12) % 256) as u8)
 }

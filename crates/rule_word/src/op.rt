@@ -1,6 +1,6 @@
 ghost use Rattle.std.specs.Prelude.{◌≡◌, ◌<◌, ◌≤◌, ◌↔◌, IsTrue, IfSome, Some};
 ghost use Rattle.smack_base.specs.declared.rule_op.RuleOp.{RuleOp};
-ghost use Rattle.rule_word.specs.Layout.{word, op_word, IsId, IsPackable};
+ghost use Rattle.rule_word.specs.Layout.{packed_word, op_word, IsId, IsPackable};
 ghost use Rattle.rule_word.specs.Fields.{op_in};
 
 use crate::fields::{allowed, denied, first, modes_number, number, second, tag};
@@ -8,7 +8,7 @@ use smack_base::{LabelId, RuleOp};
 
 fn shifted(tag: u64, first: LabelId, second: LabelId, allow: u8, deny: u8) -> u64
     requires { tag < 16 }
-    ensures { result ≡ word tag first.0 second.0 allow deny }
+    ensures { result ≡ packed_word tag first.0 second.0 allow deny }
 {
     (tag << 60)
         + (u64::from(first.0) << 44)

@@ -14,6 +14,3 @@ execute = record no_modes { execute = true }
 
 abbrev pub read_write : Modes
 read_write = record no_modes { read = true; write = true }
-
-abbrev pub read_execute : Modes
-read_execute = record no_modes { read = true; execute = true }

@@ -1,11 +1,10 @@
 use Rattle.std.specs.Prelude.{ℕ, Bool, true, false, ◌&&◌, if◌then◌else◌, List, [], ◌∷◌, Option, Some, None}
 use Rattle.smack_base.specs.declared.modes.Modes.{Modes}
 use Rattle.smack_base.specs.declared.ids.LabelId.{LabelId}
-use Rattle.smack_base.specs.Modes.{holds}
+use Rattle.smack_base.specs.Modes.{holds, read_execute}
 use Rattle.rules_spec.specs.declared.Verdict.{Verdict}
 use Rattle.rules_spec.specs.Versions.{floor, hat, star, same_label}
 use Rattle.rules_spec.specs.Rulings.{Ruling}
-use Rattle.rules_spec.specs.AskedModes.{read_execute}
 
 -- each mode that is asked for is read or execute
 abbrev pub only_reads : Modes → Bool

@@ -15,7 +15,7 @@ use smack_base::{Duplicate, LabelId, Modes, RuleOps, Sequence};
 use std::alloc::AllocError;
 
 /// The writes that one call of one task published together; each batch makes a version.
-#[derive(Debug, Drop)]
+#[derive(Drop)]
 pub struct Batch {
     /// The number of the task, from 0.
     pub task: u16,
@@ -39,7 +39,7 @@ impl Duplicate for Batch {
 }
 
 /// The answer to one question: may this subject have these modes on this object?
-#[derive(Clone, Copy, Debug, PartialEq, Eq)]
+#[derive(Clone, Copy, PartialEq, Eq)]
 pub struct Verdict {
     /// Yes or no.
     pub allowed: bool,

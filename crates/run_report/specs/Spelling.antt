@@ -16,5 +16,5 @@ abbrev pub plain_line : PrintedLine → List ℕ
 plain_line line = spell_line [] [] line
 
 -- the bytes of some lines
-abbrev pub lines_by : Spelling → List PrintedLine → List (List ℕ)
-lines_by by lines = spell_lines by.labels.now by.names.now lines
+abbrev pub lines_spelled_by : Spelling → List PrintedLine → List (List ℕ)
+lines_spelled_by by lines = spell_lines by.labels.now by.names.now lines

@@ -2,7 +2,7 @@ ghost use Rattle.std.specs.Prelude.{◌≡◌, [], ◌∷◌, ◌++◌, map, OnO
 ghost use Rattle.log_spec.specs.Audits.{outcome, selected_as};
 ghost use Rattle.log_spec.specs.Shown.{Logs, audit_lines};
 ghost use Rattle.record_spec.specs.Entries.{entry_head, call_verb as verb_of_call, check_line as check_text, reply_line as reply_text, entry_lines as lines_of_entry};
-ghost use Rattle.run_report.specs.Spelling.{line_by, lines_by};
+ghost use Rattle.run_report.specs.Spelling.{line_by, lines_spelled_by};
 
 use crate::calls::{call_verb, put_call, put_reply};
 use crate::page::Page;
@@ -35,7 +35,7 @@ fn check_line(page: &mut Page, by: &Spelling, v: &Verdict) -> Result<(), AllocEr
 }
 
 fn check_lines(page: &mut Page, by: &Spelling, checks: &[Verdict]) -> Result<(), AllocError>
-    ensures { OnOk result (page.new ≡ page.old ++ lines_by by.now (map check_text checks.now)) }
+    ensures { OnOk result (page.new ≡ page.old ++ lines_spelled_by by.now (map check_text checks.now)) }
 {
     for v in checks {
         check_line(page, by, v)?;
@@ -53,7 +53,7 @@ fn logged_line(page: &mut Page, by: &Spelling, verb: &[u8], v: &Verdict) -> Resu
 }
 
 fn logged_lines(page: &mut Page, by: &Spelling, mode: u8, entry: &Entry) -> Result<(), AllocError>
-    ensures { OnOk result (page.new ≡ page.old ++ lines_by by.now (audit_lines (selected_as mode) (verb_of_call entry.now.call) entry.now.checks)) }
+    ensures { OnOk result (page.new ≡ page.old ++ lines_spelled_by by.now (audit_lines (selected_as mode) (verb_of_call entry.now.call) entry.now.checks)) }
 {
     let verb = call_verb(&entry.call);
     for v in entry.checks.items() {
@@ -81,7 +81,7 @@ pub fn entry_lines(
     place: u64,
     entry: &Entry,
 ) -> Result<(), AllocError>
-    ensures { OnOk result (page.new ≡ page.old ++ lines_by by.now (lines_of_entry (selected_as mode) place entry.now)) }
+    ensures { OnOk result (page.new ≡ page.old ++ lines_spelled_by by.now (lines_of_entry (selected_as mode) place entry.now)) }
 {
     entry_line(page, by, place, entry)?;
     check_lines(page, by, entry.checks.items())?;

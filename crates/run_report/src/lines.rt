@@ -2,7 +2,7 @@ ghost use Rattle.std.specs.Prelude.{◌≡◌, ◌++◌, ◌∷◌, [], length, 
 ghost use Rattle.log_spec.specs.Words.{words, line};
 ghost use Rattle.log_spec.specs.Shown.{Says};
 ghost use Rattle.record_spec.specs.Show.{op_words, op_line as op_text, batch_head, batch_lines as lines_of_batch, asked_head, what_words, answer_words, asked_lines as lines_of_asked, task_line as task_text, task_lines as lines_of_tasks, head_lines as head_of_record, end_line as end_text};
-ghost use Rattle.run_report.specs.Spelling.{words_by, line_by, plain_line, lines_by};
+ghost use Rattle.run_report.specs.Spelling.{words_by, line_by, plain_line, lines_spelled_by};
 
 use crate::page::Page;
 use crate::refusals::put_refusal;
@@ -67,7 +67,7 @@ fn batch_line(page: &mut Page, version: u64, batch: &Batch) -> Result<(), AllocE
 }
 
 fn op_lines(page: &mut Page, by: &Spelling, ops: &[RuleOp]) -> Result<(), AllocError>
-    ensures { OnOk result (page.new ≡ page.old ++ lines_by by.now (map op_text ops.now)) }
+    ensures { OnOk result (page.new ≡ page.old ++ lines_spelled_by by.now (map op_text ops.now)) }
 {
     for op in ops {
         op_line(page, by, op)?;
@@ -82,7 +82,7 @@ pub fn batch_lines(
     version: u64,
     batch: &Batch,
 ) -> Result<(), AllocError>
-    ensures { OnOk result (page.new ≡ page.old ++ lines_by by.now (lines_of_batch version batch.now)) }
+    ensures { OnOk result (page.new ≡ page.old ++ lines_spelled_by by.now (lines_of_batch version batch.now)) }
 {
     batch_line(page, version, batch)?;
     op_lines(page, by, batch.ops.items())
@@ -141,7 +141,7 @@ fn answer_line(page: &mut Page, what: &AskedWhat) -> Result<(), AllocError>
 /// The lines of an asked, refused or waited line and its answer.
 #[tactic(auto, using(log_spec::proofs::Spelling::plain_spelled))]
 pub fn asked_lines(page: &mut Page, by: &Spelling, asked: &AskedLine) -> Result<(), AllocError>
-    ensures { OnOk result (page.new ≡ page.old ++ lines_by by.now (lines_of_asked asked.now)) }
+    ensures { OnOk result (page.new ≡ page.old ++ lines_spelled_by by.now (lines_of_asked asked.now)) }
 {
     question_line(page, by, asked)?;
     answer_line(page, &asked.what)
@@ -157,7 +157,7 @@ fn task_line(page: &mut Page, by: &Spelling, task: NumberedTask) -> Result<(), A
 }
 
 fn task_lines(page: &mut Page, by: &Spelling, tasks: &[NumberedTask]) -> Result<(), AllocError>
-    ensures { OnOk result (page.new ≡ page.old ++ lines_by by.now (map task_text tasks.now)) }
+    ensures { OnOk result (page.new ≡ page.old ++ lines_spelled_by by.now (map task_text tasks.now)) }
 {
     for task in tasks {
         task_line(page, by, *task)?;
@@ -172,7 +172,7 @@ pub fn head_lines(
     alloc: Global,
     r: &RunRecord,
 ) -> Result<(), AllocError>
-    ensures { OnOk result (page.new ≡ page.old ++ lines_by by.now (head_of_record r.now)) }
+    ensures { OnOk result (page.new ≡ page.old ++ lines_spelled_by by.now (head_of_record r.now)) }
 {
     let tasks = run_tasks(alloc, r.history.items())?;
     let out = page.begin(b"smack 1")?;

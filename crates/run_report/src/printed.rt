@@ -1,6 +1,6 @@
 ghost use Rattle.std.specs.Prelude.{◌≡◌, ◌<◌, ℕ, List, ◌++◌, length, OnOk};
 ghost use Rattle.log_spec.specs.Shown.{PrintedLine};
-ghost use Rattle.run_report.specs.Spelling.{lines_by};
+ghost use Rattle.run_report.specs.Spelling.{lines_spelled_by};
 
 use crate::entries::entry_lines;
 use crate::lines::{asked_lines, batch_lines};
@@ -26,7 +26,7 @@ pub trait Printed {
         place: u64,
     ) -> Result<(), AllocError>
         requires { 0 < length modes.now }
-        ensures { OnOk result (page.new ≡ page.old ++ lines_by by.now (lines_of modes.now place self.now)) };
+        ensures { OnOk result (page.new ≡ page.old ++ lines_spelled_by by.now (lines_of modes.now place self.now)) };
 }
 
 /// A batch; its place is the version that it makes.

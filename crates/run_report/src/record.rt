@@ -2,7 +2,7 @@ ghost use Rattle.std.specs.Prelude.{◌≡◌, ◌<◌, [], ◌∷◌, length, O
 ghost use Rattle.outside.specs.Seen.{seen};
 ghost use Rattle.run_report.specs.Put.{IsPut};
 ghost use Rattle.run_report.specs.Modes.{modes_from};
-ghost use Rattle.run_report.specs.Spelling.{plain_line, lines_by};
+ghost use Rattle.run_report.specs.Spelling.{plain_line, lines_spelled_by};
 ghost use Rattle.record_spec.specs.Show.{joined, lines_in_turn, head_lines as lines_of_head, end_line as end_text, show};
 
 use crate::fault::ReportFault;
@@ -46,7 +46,7 @@ fn item_page<T: Printed>(
     place: u64,
 ) -> Result<(), AllocError>
     requires { 0 < length modes.now }
-    ensures { OnOk result (page.new ≡ lines_by by.now (T.lines_of modes.now place item.now)) }
+    ensures { OnOk result (page.new ≡ lines_spelled_by by.now (T.lines_of modes.now place item.now)) }
 {
     page.clear()?;
     item.put_lines(page, by, modes, place)
@@ -61,7 +61,7 @@ fn put_items<K: Sink, T: Printed>(
     items: &[T],
 ) -> Result<(), ReportFault>
     requires { 0 < length modes.now }
-    ensures { IsPut (joined (lines_by by.now (lines_in_turn (T.lines_of modes.now) 1 items.now))) (seen K.taken K.faults sink.old) (seen K.taken K.faults sink.new) result }
+    ensures { IsPut (joined (lines_spelled_by by.now (lines_in_turn (T.lines_of modes.now) 1 items.now))) (seen K.taken K.faults sink.old) (seen K.taken K.faults sink.new) result }
 {
     for (i, item) in items.iter().enumerate() {
         let place = i as u64 + 1;
@@ -74,7 +74,7 @@ fn put_items<K: Sink, T: Printed>(
 }
 
 fn head_page(page: &mut Page, by: &Spelling, alloc: Global, r: &RunRecord) -> Result<(), AllocError>
-    ensures { OnOk result (page.new ≡ lines_by by.now (lines_of_head r.now)) }
+    ensures { OnOk result (page.new ≡ lines_spelled_by by.now (lines_of_head r.now)) }
 {
     page.clear()?;
     head_lines(page, by, alloc, r)
@@ -95,7 +95,7 @@ fn put_head<K: Sink>(
     alloc: Global,
     r: &RunRecord,
 ) -> Result<(), ReportFault>
-    ensures { IsPut (joined (lines_by by.now (lines_of_head r.now))) (seen K.taken K.faults sink.old) (seen K.taken K.faults sink.new) result }
+    ensures { IsPut (joined (lines_spelled_by by.now (lines_of_head r.now))) (seen K.taken K.faults sink.old) (seen K.taken K.faults sink.new) result }
 {
     match head_page(page, by, alloc, r) {
         Ok(()) => put_lines(sink, page.lines()),

@@ -1,6 +1,6 @@
 ghost use Rattle.std.specs.Prelude.{◌≡◌, ◌==◌, position, nat_lt, IfOk, OnOk};
 ghost use Rattle.std.specs.List.{list_any, position_or_len};
-ghost use Rattle.record_spec.specs.Tasks.{forked as pid_forked, numbered_child as numbered_child_of, with_task, with_child, run_tasks as tasks_of_run};
+ghost use Rattle.record_spec.specs.Tasks.{forked as pid_forked, numbered_child as numbered_child_of, with_task, with_made_task, run_tasks as tasks_of_run};
 
 use record_spec::NumberedTask;
 use smack_base::Pid;
@@ -54,7 +54,7 @@ fn add_task(tasks: &mut Vec<NumberedTask>, task: NumberedTask) -> Result<(), All
 }
 
 fn add_child(tasks: &mut Vec<NumberedTask>, entry: &Entry) -> Result<(), AllocError>
-    ensures { OnOk result (tasks.new.items ≡ with_child tasks.old.items (numbered_child_of entry.now)) }
+    ensures { OnOk result (tasks.new.items ≡ with_made_task tasks.old.items (numbered_child_of entry.now)) }
 {
     match numbered_child(entry) {
         Some(task) => add_task(tasks, task),

@@ -10,10 +10,10 @@ use Rattle.live_table.proofs.Lists.{long_map}
 use Rattle.script_spec.specs.Lines.{ScriptLine}
 use Rattle.script_text.specs.Lines.{call_seen}
 use Rattle.script_text.specs.declared.line.Line.{Line}
-use Rattle.task_runs.specs.Scripts.{segment, lines_by}
-use Rattle.task_runs.specs.Orders.{NoneWaits}
-use Rattle.task_runs.proofs.Segments.{cut, one, empty, stands_here}
-use Rattle.task_runs.proofs.Orders.{none_both}
+use Rattle.runs_spec.specs.Scripts.{segment, lines_by}
+use Rattle.runs_spec.specs.Orders.{NoneWaits}
+use Rattle.runs_spec.proofs.Segments.{cut, one, empty, stands_here}
+use Rattle.runs_spec.proofs.Orders.{none_both}
 use Rattle.script_acts.specs.Places.{IsWaitAt}
 
 module _ (p n to : ℕ) (xs : List Line) (d : Line) (low : n < to) (high : to ≤ length xs) where

@@ -1,12 +1,12 @@
 ghost use Rattle.std.specs.Prelude.{◌≡◌, ◌≤◌, ◌<◌, ◌+◌, [], ◌∷◌, ℕ, List, length, map, MatchOption, IfSome};
 ghost use Rattle.std.specs.Bool.{OnTrue, OnFalse};
-ghost use Rattle.script_spec.specs.Grammar.{most_tasks};
+ghost use Rattle.script_spec.specs.Grammar.{most_script_tasks};
 ghost use Rattle.script_text.specs.Lines.{call_seen};
 ghost use Rattle.record_spec.specs.declared.AskedWhat.TheVariants as AskedWhat;
 ghost use Rattle.legal_spec.specs.Calls.{Stands};
 ghost use Rattle.legal_spec.specs.Lines.{IsAskedOfLine};
-ghost use Rattle.task_runs.specs.Scripts.{segment};
-ghost use Rattle.task_runs.specs.Orders.{NoneWaits};
+ghost use Rattle.runs_spec.specs.Scripts.{segment};
+ghost use Rattle.runs_spec.specs.Orders.{NoneWaits};
 ghost use Rattle.script_acts.specs.Places.{IsWaitAt};
 
 use script_calls::{pid_in, words_of};
@@ -38,7 +38,7 @@ pub fn line_between<'a>(
 
 /// Whether a line waits for the task with a pid.
 fn awaits(names: &[Bytes], line: &Line<'_>, child: Pid) -> bool
-    requires { length names.now ≤ most_tasks }
+    requires { length names.now ≤ most_script_tasks }
     ensures is { OnTrue result ((labels : List (List ℕ)) → IsAskedOfLine labels names.now (call_seen line.now) (AskedWhat.Wait child)) }
     ensures is_not { OnFalse result ((labels : List (List ℕ)) → IsAskedOfLine labels names.now (call_seen line.now) (AskedWhat.Wait child) → ⊥) }
 {
@@ -58,7 +58,7 @@ pub fn wait_between(
     from: usize,
     to: usize,
 ) -> usize
-    requires names { length names.now ≤ most_tasks }
+    requires names { length names.now ≤ most_script_tasks }
     requires place { (from ≤ to) × (to ≤ length lines.now) }
     ensures place { (from ≤ result) × (result ≤ to) }
     ensures line { result < to → IsWaitAt names.now (map call_seen lines.now) pid child result to }

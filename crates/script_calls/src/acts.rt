@@ -1,5 +1,5 @@
 ghost use Rattle.std.specs.Prelude.{◌≡◌, ◌≤◌, [], Some, length, IfOk};
-ghost use Rattle.script_spec.specs.Grammar.{most_tasks};
+ghost use Rattle.script_spec.specs.Grammar.{most_script_tasks};
 ghost use Rattle.script_text.specs.Lines.{call_seen};
 ghost use Rattle.replay_spec.specs.Acts.{act_by, act_of_line};
 
@@ -30,7 +30,7 @@ fn ask_act(labels: &Labels, line: &Line<'_>) -> Option<Act>
 }
 
 fn wait_act(names: &[Bytes], line: &Line<'_>) -> Option<Act>
-    requires { length names.now ≤ most_tasks }
+    requires { length names.now ≤ most_script_tasks }
     ensures { result ≡ act_by [] names.now (call_seen line.now) (Some Verb.Wait) }
 {
     match pid_in(names, words_of(line).one) {
@@ -40,7 +40,7 @@ fn wait_act(names: &[Bytes], line: &Line<'_>) -> Option<Act>
 }
 
 fn fork_act(names: &[Bytes], line: &Line<'_>) -> Option<Act>
-    requires { length names.now ≤ most_tasks }
+    requires { length names.now ≤ most_script_tasks }
     ensures { result ≡ act_by [] names.now (call_seen line.now) (Some Verb.Fork) }
 {
     match pid_in(names, words_of(line).one) {
@@ -57,7 +57,7 @@ pub fn act_of(
     names: &[Bytes],
     line: &Line<'_>,
 ) -> Result<Option<Act>, AllocError>
-    requires { length names.now ≤ most_tasks }
+    requires { length names.now ≤ most_script_tasks }
     ensures { IfOk result (λ act. act ≡ act_of_line labels.now names.now (call_seen line.now)) }
 {
     match verb_of(line.verb.bytes) {

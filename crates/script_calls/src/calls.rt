@@ -1,6 +1,6 @@
 ghost use Rattle.std.specs.Prelude.{◌≡◌, ◌≤◌, ◌<◌, length, position, IfOk, IfSome};
 ghost use Rattle.std.specs.Str.{bytes_eq};
-ghost use Rattle.script_spec.specs.Grammar.{most_tasks};
+ghost use Rattle.script_spec.specs.Grammar.{most_script_tasks};
 ghost use Rattle.script_text.specs.Lines.{call_seen};
 ghost use Rattle.script_spec.specs.Words.{signal_of as signal_of_word, trace_way_of as way_of_word};
 ghost use Rattle.replay_spec.specs.Calls.{of_two, traced, modes_in as modes_of_word, path_in as path_of_word, pid_in as pid_of_word, task_call as task_call_of, tree_call as tree_call_of, made_call as made_call_of};
@@ -41,7 +41,7 @@ fn place_in(names: &[Bytes], word: &[u8]) -> Option<usize>
 /// The pid of the task that a word names; None where no task has the name.
 #[tactic(auto, using(crate::proofs::Pids::pid_at, crate::proofs::Pids::no_pid))]
 pub fn pid_in(names: &[Bytes], word: &[u8]) -> Option<Pid>
-    requires { length names.now ≤ most_tasks }
+    requires { length names.now ≤ most_script_tasks }
     ensures { result ≡ pid_of_word names.now word.now }
 {
     match place_in(names, word) {
@@ -51,7 +51,7 @@ pub fn pid_in(names: &[Bytes], word: &[u8]) -> Option<Pid>
 }
 
 fn kill(names: &[Bytes], name: &[u8], signal: &[u8]) -> Option<TaskCall>
-    requires { length names.now ≤ most_tasks }
+    requires { length names.now ≤ most_script_tasks }
     ensures { result ≡ of_two (pid_of_word names.now name.now) (signal_of_word signal.now) (λ pid sig. TaskCall.Kill pid sig) }
 {
     match (pid_in(names, name), signal_of(signal)) {
@@ -61,7 +61,7 @@ fn kill(names: &[Bytes], name: &[u8], signal: &[u8]) -> Option<TaskCall>
 }
 
 fn trace(names: &[Bytes], way: &[u8], name: &[u8]) -> Option<TaskCall>
-    requires { length names.now ≤ most_tasks }
+    requires { length names.now ≤ most_script_tasks }
     ensures { result ≡ of_two (way_of_word way.now) (pid_of_word names.now name.now) traced }
 {
     match (trace_way_of(way), pid_in(names, name)) {
@@ -73,7 +73,7 @@ fn trace(names: &[Bytes], way: &[u8], name: &[u8]) -> Option<TaskCall>
 
 /// The call that a line makes on tasks; None where its words are not of their kinds.
 fn task_call(labels: &Labels, names: &[Bytes], line: &Line<'_>, verb: TaskVerb) -> Option<TaskCall>
-    requires { length names.now ≤ most_tasks }
+    requires { length names.now ≤ most_script_tasks }
     ensures { result ≡ task_call_of labels.now names.now (call_seen line.now) verb }
 {
     let words = words_of(line);
@@ -131,7 +131,7 @@ pub fn made_call(
     line: &Line<'_>,
     verb: CallVerb,
 ) -> Result<Option<Call>, AllocError>
-    requires { length names.now ≤ most_tasks }
+    requires { length names.now ≤ most_script_tasks }
     ensures { IfOk result (λ call. call ≡ made_call_of labels.now names.now (call_seen line.now) verb) }
 {
     match verb {

@@ -1,5 +1,5 @@
 ghost use Rattle.std.specs.Prelude.{◌≡◌, IfOk};
-ghost use Rattle.script_text.specs.TaskTables.{names_in};
+ghost use Rattle.script_text.specs.TaskTables.{part_names};
 
 use rule_text::Part;
 use smack_base::{Bytes, NameList};
@@ -7,7 +7,7 @@ use std::alloc::{AllocError, Global};
 
 /// The names of tasks, copied.
 pub fn names_of(alloc: Global, tasks: &[Part<'_>]) -> Result<NameList, AllocError>
-    ensures { IfOk result (λ names. names ≡ names_in tasks.now) }
+    ensures { IfOk result (λ names. names ≡ part_names tasks.now) }
 {
     let mut names = NameList::new(alloc);
     for task in tasks {

@@ -7,8 +7,8 @@ use Rattle.script_spec.specs.declared.ScriptFault.{ScriptFault}
 use Rattle.script_spec.specs.Lines.{ScriptLine}
 use Rattle.script_spec.specs.Tasks.{tasks_of}
 use Rattle.script_spec.specs.Causes.{line_cause}
-use Rattle.script_spec.specs.Grammar.{items, item_of, is_skipped, spaced_words, text_count, has_text, call_of, calls_of, unless_fault, limit_faults, item_fault, lines_fault, parse, most_lines, most_bytes}
-use Rattle.script_laws.specs.Parses.{AreSkipped, Spells, Cut, BeginsWith, EndsAs, ReadsAs, Parses}
+use Rattle.script_spec.specs.Grammar.{items, item_of, is_skipped, spaced_words, text_count, has_text, call_of, calls_of, unless_script_fault, limit_faults, item_fault, lines_fault, parse, most_lines, most_bytes}
+use Rattle.script_laws.specs.Parses.{AreSkipped, Spells, LineCut, BeginsWith, EndsAs, ReadsAs, Parses}
 use Rattle.script_laws.proofs.Items.{items_pass, items_skipped, items_called, call_is, text_is_there, text_is_missing, breaks, breaks_nothing}
 
 -- a line that spells a call breaks nothing
@@ -65,7 +65,7 @@ complete_from (c ∷ cs) whole above number lines number' rest read begins ends 
     rw (first, good.0, good.1) behind
 
 -- what stands behind lines that all are read
-end_here : (whole : Option ScriptFault) (above : List ScriptLine) (number : ℕ) → EndsAs whole (above ++ []) number [] (unless_fault whole (Ok above))
+end_here : (whole : Option ScriptFault) (above : List ScriptLine) (number : ℕ) → EndsAs whole (above ++ []) number [] (unless_script_fault whole (Ok above))
 end_here None above number = (sym (append-nil above), refl, refl)
 end_here (Some e) above number = inr (refl, refl)
 
@@ -103,7 +103,7 @@ skip_one whole above number l ls read skip reads = by reads.0 reads.1 reads.2 re
         ([], number, l ∷ ls, (refl, refl), skip_end read whole (above ++ []) number l ls skip here)
     by (c ∷ cs) number' rest begins ends =
         let cut = begins.0 in
-        let cut' : Cut = record { skipped = l ∷ cut.skipped; line = cut.line; text = cut.text; after = cut.after } in
+        let cut' : LineCut = record { skipped = l ∷ cut.skipped; line = cut.line; text = cut.text; after = cut.after } in
         let more : number + 1 + length cut.skipped ≡ number + length (l ∷ cut.skipped) = omega arith in (
           c ∷ cs,
           number',

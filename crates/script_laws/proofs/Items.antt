@@ -12,7 +12,7 @@ use Rattle.script_spec.specs.Words.{verb_of, kinds_of, bad_word, has_deep_path, 
 use Rattle.script_spec.specs.Lines.{ScriptLine}
 use Rattle.script_spec.specs.Tasks.{Tasks, tasks_of}
 use Rattle.script_spec.specs.Causes.{first_cause, cause_if, names_unbuilt_file, task_causes, verb_cause, behind_task, line_cause}
-use Rattle.script_spec.specs.Grammar.{Item, items, item_of, is_skipped, spaced_words, text_count, has_text, call_of, first_of, fault_if}
+use Rattle.script_spec.specs.Grammar.{Item, items, item_of, is_skipped, spaced_words, text_count, has_text, call_of, first_script_fault, fault_if}
 use Rattle.script_laws.specs.Parses.{AreSkipped, call_spelled}
 
 and_both : (x y : Bool) → (x && y) ≡ true → (x ≡ true) × (y ≡ true)
@@ -111,10 +111,10 @@ text_is_missing tasks (t ∷ ws) e = behind_missing tasks t.bytes ws (if_named (
 
 -- what an item breaks, over plain answers
 abbrev pub breaks : Bool → ℕ → Option Cause → List (Option ScriptFault) → Option ScriptFault
-breaks many line cause limits = first_of (fault_if many (ScriptFault.TooLarge What.Lines) ∷ option_map (λ c. ScriptFault.Malformed line c) cause ∷ limits)
+breaks many line cause limits = first_script_fault (fault_if many (ScriptFault.TooLarge What.Lines) ∷ option_map (λ c. ScriptFault.Malformed line c) cause ∷ limits)
 
 pub breaks_nothing : (many : Bool) (line : ℕ) (cause : Option Cause) (limits : List (Option ScriptFault)) → breaks many line cause limits ≡ None
-    → (many ≡ false) × (cause ≡ None) × (first_of limits ≡ None)
+    → (many ≡ false) × (cause ≡ None) × (first_script_fault limits ≡ None)
 breaks_nothing true line cause limits e = cc
 breaks_nothing false line (Some c) limits e = cc
 breaks_nothing false line None limits e = (refl, refl, e)

@@ -14,7 +14,7 @@ use Rattle.script_spec.specs.declared.ScriptFault.{ScriptFault}
 use Rattle.script_spec.specs.declared.ScriptFault.TheVariants as ScriptFault
 use Rattle.script_spec.specs.declared.What.TheVariants as What
 use Rattle.script_spec.specs.Lines.{ScriptLine}
-use Rattle.script_spec.specs.Grammar.{Item, items, item_of, is_skipped, spaced_words, text_count, text_bytes, call_of, item_fault, calls_of, unless_fault, lines_fault, script_of, most_bytes}
+use Rattle.script_spec.specs.Grammar.{Item, items, item_of, is_skipped, spaced_words, text_count, text_bytes, call_of, item_fault, calls_of, unless_script_fault, lines_fault, script_of, most_bytes}
 use Rattle.script_laws.specs.Slices.{IsSliced, CallsAreSlices}
 
 -- the words of an item, and its text, are slices of a text that begins at this place
@@ -81,7 +81,7 @@ parts at line text (l ∷ ls) joined =
     ]
 
 unless_ok : (fault : Option ScriptFault) (more : Result (List ScriptLine) ScriptFault) (lines : List ScriptLine)
-    → unless_fault fault more ≡ Ok lines → more ≡ Ok lines
+    → unless_script_fault fault more ≡ Ok lines → more ≡ Ok lines
 unless_ok None more lines is = is
 unless_ok (Some fault) more lines is = cc
 

@@ -1,7 +1,7 @@
 use Rattle.std.proofs.Common.{refl}
-use Rattle.script_laws.specs.WorkedScripts.{WorkedScripts, ReadScripts}
+use Rattle.script_laws.specs.WorkedScripts.{WorkedFaults, ReadScripts}
 
-pub scripts : WorkedScripts
+pub scripts : WorkedFaults
 scripts = record {
   nobody = refl;
   exited = refl;

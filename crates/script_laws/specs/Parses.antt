@@ -8,7 +8,7 @@ use Rattle.script_spec.specs.Words.{word_at}
 use Rattle.script_spec.specs.Lines.{ScriptLine}
 use Rattle.script_spec.specs.Tasks.{Tasks, tasks_of, pid_of}
 use Rattle.script_spec.specs.Causes.{line_cause}
-use Rattle.script_spec.specs.Grammar.{is_skipped, spaced_words, text_count, item_of, item_fault, first_of, limit_faults, lines_fault, most_bytes, most_lines}
+use Rattle.script_spec.specs.Grammar.{is_skipped, spaced_words, text_count, item_of, item_fault, first_script_fault, limit_faults, lines_fault, most_bytes, most_lines}
 
 -- all of these lines are skipped
 abbrev pub AreSkipped : List TextLine → Type 0
@@ -32,16 +32,16 @@ pub record Spells (above : List ScriptLine) (number : ℕ) (line : TextLine) (te
   pub is : call ≡ call_spelled (tasks_of above) number line text
   pub allowed : line_cause (tasks_of above) (spaced_words line) true ≡ None
   pub within : number ≤ most_lines
-  pub limits : first_of (limit_faults (above ++ call ∷ []) call) ≡ None
+  pub limits : first_script_fault (limit_faults (above ++ call ∷ []) call) ≡ None
 
 -- some lines that are skipped, then a line, the lines of its text, and those behind them
-pub record Cut : Type 0 where
+pub record LineCut : Type 0 where
   pub skipped : List TextLine
   pub line : TextLine
   pub text : List TextLine
   pub after : List TextLine
 
-abbrev pub lines_cut : Cut → List TextLine
+abbrev pub lines_cut : LineCut → List TextLine
 lines_cut c = c.skipped ++ (c.line ∷ c.text ++ c.after)
 
 -- Lines from a number on begin with the lines of these calls, behind the calls above them: each line that spells a call
@@ -49,7 +49,7 @@ lines_cut c = c.skipped ++ (c.line ∷ c.text ++ c.after)
 abbrev pub BeginsWith : List ScriptLine → ℕ → List TextLine → List ScriptLine → ℕ → List TextLine → Type 0
 BeginsWith above number lines [] number' rest = (number ≡ number') × (lines ≡ rest)
 BeginsWith above number lines (c ∷ cs) number' rest =
-    (cut : Cut)
+    (cut : LineCut)
     × (lines ≡ lines_cut cut)
     × AreSkipped cut.skipped
     × Spells above (number + length cut.skipped) cut.line cut.text c

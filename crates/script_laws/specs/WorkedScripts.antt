@@ -14,7 +14,7 @@ abbrev pub IsBad : List ℕ → ℕ → Cause → Type 0
 IsBad script line cause = parse script ≡ Err (ScriptFault.Malformed line cause)
 
 -- Scripts with a bad line, and why it is bad.
-pub record WorkedScripts : Type 0 where
+pub record WorkedFaults : Type 0 where
   pub nobody : IsBad (codes "B ask A B r") 1 Cause.Task
   pub exited : IsBad (codes "init fork B\nB exit\ninit take\nB take\n") 4 Cause.Task
   pub awaited : IsBad (codes "init fork B\ninit wait B\nB take\n") 3 Cause.Task
@@ -57,21 +57,21 @@ abbrev pub calls_read : Result (List ScriptLine) ScriptFault → List ScriptLine
 calls_read (Ok lines) = lines
 calls_read (Err fault) = []
 
-abbrev pub calls_of : List ℕ → List ScriptLine
-calls_of script = calls_read (parse script)
+abbrev pub calls_in : List ℕ → List ScriptLine
+calls_in script = calls_read (parse script)
 
 -- the pid of the task of a call, its number among the calls of the task, and the number of its line
 abbrev pub places_of : List ℕ → List (List ℕ)
-places_of script = map (λ l. l.task ∷ l.seq ∷ l.line ∷ []) (calls_of script)
+places_of script = map (λ l. l.task ∷ l.seq ∷ l.line ∷ []) (calls_in script)
 
 -- how many labels each script has, the five predefined ones included
 abbrev pub label_counts : List (List ℕ) → List ℕ
-label_counts scripts = map (λ script. length (table_of (calls_of script))) scripts
+label_counts scripts = map (λ script. length (table_of (calls_in script))) scripts
 
 -- a script that forks so many tasks, with names of two digits
-abbrev pub forks : ℕ → List ℕ
-forks zero = []
-forks (suc n) = forks n ++ codes "init fork " ++ (48 + (n / 10)) ∷ (48 + (n % 10)) ∷ 10 ∷ []
+abbrev pub forking_script : ℕ → List ℕ
+forking_script zero = []
+forking_script (suc n) = forking_script n ++ codes "init fork " ++ (48 + (n / 10)) ∷ (48 + (n % 10)) ∷ 10 ∷ []
 
 abbrev pub two_texts : List ℕ
 two_texts = codes "# a comment\n\n  init  write load2 2 \nA B rw\n\ninit ask A B r"
@@ -82,14 +82,14 @@ three_tasks = codes "init fork B\nB fork C\nC take\nB kill C 9\ninit take"
 -- What is read of good scripts.
 pub record ReadScripts : Type 0 where
   pub skipped_lines : places_of two_texts ≡ (0 ∷ 1 ∷ 3 ∷ []) ∷ (0 ∷ 2 ∷ 6 ∷ []) ∷ []
-  pub second_words : map (λ l. (word_at 2 l.words).at) (calls_of two_texts) ≡ 33 ∷ 55 ∷ []
-  pub texts : map (λ l. l.text.bytes) (calls_of two_texts) ≡ codes "A B rw\n\n" ∷ [] ∷ []
-  pub third_words : map (word_in 3) (calls_of two_texts) ≡ [] ∷ codes "r" ∷ []
+  pub second_words : map (λ l. (word_at 2 l.words).at) (calls_in two_texts) ≡ 33 ∷ 55 ∷ []
+  pub texts : map (λ l. l.text.bytes) (calls_in two_texts) ≡ codes "A B rw\n\n" ∷ [] ∷ []
+  pub third_words : map (word_in 3) (calls_in two_texts) ≡ [] ∷ codes "r" ∷ []
   pub pids : places_of three_tasks ≡ (0 ∷ 1 ∷ 1 ∷ []) ∷ (1 ∷ 1 ∷ 2 ∷ []) ∷ (2 ∷ 1 ∷ 3 ∷ []) ∷ (1 ∷ 2 ∷ 4 ∷ []) ∷ (0 ∷ 2 ∷ 5 ∷ []) ∷ []
-  pub names : task_names (calls_of three_tasks) ≡ codes "init" ∷ codes "B" ∷ codes "C" ∷ []
-  pub longest_name : task_names (calls_of (codes "init fork abcdefghijklmnop\nabcdefghijklmnop exit")) ≡ codes "init" ∷ codes "abcdefghijklmnop" ∷ []
-  pub longest_file : length (calls_of (codes "init write abcdefghijklmnopqrstuvwxyz012345 0")) ≡ 1
-  pub most_tasks : length (task_names (calls_of (forks 63))) ≡ 64
-  pub too_many_tasks : parse (forks 64) ≡ Err (ScriptFault.TooLarge What.Tasks)
+  pub names : task_names (calls_in three_tasks) ≡ codes "init" ∷ codes "B" ∷ codes "C" ∷ []
+  pub longest_name : task_names (calls_in (codes "init fork abcdefghijklmnop\nabcdefghijklmnop exit")) ≡ codes "init" ∷ codes "abcdefghijklmnop" ∷ []
+  pub longest_file : length (calls_in (codes "init write abcdefghijklmnopqrstuvwxyz012345 0")) ≡ 1
+  pub most_tasks : length (task_names (calls_in (forking_script 63))) ≡ 64
+  pub too_many_tasks : parse (forking_script 64) ≡ Err (ScriptFault.TooLarge What.Tasks)
   pub labels_of_words_and_texts : label_counts (codes "init write load-self2 2\nA B r\nB C r\n" ∷ codes "init write load2 2\nA B r\nB C r\n" ∷ codes "init write revoke-subject 1\nA\ninit relabel A" ∷ codes "init write onlycap 1\nA B A _\n" ∷ codes "init write ambient 1\nA\ninit ask B _ r" ∷ []) ≡ 8 ∷ 8 ∷ 6 ∷ 7 ∷ 7 ∷ []
   pub no_labels_of_bad_texts : label_counts (codes "init write relabel-self 1\nA - B\n" ∷ codes "init write load2 2\nA B r\nB C z\n" ∷ codes "init write load3 1\nA B r\n" ∷ codes "init write onlycap 1\n-\n" ∷ codes "init write ptrace 1\n1\ninit create /A" ∷ []) ≡ 5 ∷ 5 ∷ 5 ∷ 5 ∷ 5 ∷ []

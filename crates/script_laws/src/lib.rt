@@ -12,7 +12,7 @@ ghost use Rattle.script_spec.specs.Lines.{ScriptLine};
 ghost use Rattle.script_spec.specs.Grammar.{parse};
 ghost use Rattle.script_laws.specs.Parses.{Parses};
 ghost use Rattle.script_laws.specs.Slices.{CallsAreSlices};
-ghost use Rattle.script_laws.specs.WorkedScripts.{WorkedScripts, ReadScripts};
+ghost use Rattle.script_laws.specs.WorkedScripts.{WorkedFaults, ReadScripts};
 
 /// Bytes parse as what the grammar relates them to, and as nothing else.
 #[tactic(auto, using(crate::proofs::Grammar::sound))]
@@ -29,7 +29,7 @@ pub fn calls_are_slices()
 /// Scripts with a bad line, computed from the definitions.
 #[tactic(auto, using(crate::proofs::Worked::scripts))]
 pub fn worked_scripts()
-    ensures { WorkedScripts }
+    ensures { WorkedFaults }
 {}
 
 /// What is read of good scripts, computed from the definitions.

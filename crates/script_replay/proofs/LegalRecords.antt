@@ -5,7 +5,7 @@ use Rattle.script_text.specs.Scripts.{AreRead}
 use Rattle.record_spec.specs.declared.RunRecord.{RunRecord}
 use Rattle.replay_spec.specs.Replays.{replayed}
 use Rattle.legal_spec.specs.Fits.{IsLegalFor}
-use Rattle.legal_replays.proofs.Fitting.{replayed_is_legal}
+use Rattle.legal_laws.proofs.Fitting.{replayed_is_legal}
 
 -- the replayed record of a script is legal for it
 pub replayed_are_legal : {E : Type 0} (result : Result RunRecord E) (lines : List ScriptLine) → AreRead lines

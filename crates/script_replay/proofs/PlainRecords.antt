@@ -5,7 +5,7 @@ use Rattle.script_text.specs.Scripts.{AreRead}
 use Rattle.record_spec.specs.declared.RunRecord.{RunRecord}
 use Rattle.replay_spec.specs.Replays.{replayed}
 use Rattle.replay_spec.specs.Plain.{IsPlain}
-use Rattle.plain_records.proofs.Replays.{replayed_is_plain}
+use Rattle.plain_laws.proofs.Replays.{replayed_is_plain}
 
 -- the replayed record of a script is plain
 pub replayed_are_plain : {E : Type 0} (result : Result RunRecord E) (lines : List ScriptLine) → AreRead lines

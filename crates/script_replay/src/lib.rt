@@ -7,7 +7,7 @@
 //!
 //! Stands on script_calls for the lines as calls, on smackfs for rule texts, on rule_fold and
 //! smack_decide for the answers to questions, on smack_world for the steps of object calls, and on
-//! plain_records and legal_replays for the laws of replayed records.
+//! plain_laws and legal_laws for the laws of replayed records.
 #![tactic(auto)]
 
 mod replaying;

@@ -1,12 +1,12 @@
 ghost use Rattle.std.specs.Prelude.{◌≡◌, ◌≤◌, ◌∷◌, ◌++◌, [], length, map, IfOk};
-ghost use Rattle.script_spec.specs.Grammar.{most_lines, most_tasks};
+ghost use Rattle.script_spec.specs.Grammar.{most_lines, most_script_tasks};
 ghost use Rattle.script_spec.specs.Tasks.{task_names};
 ghost use Rattle.script_text.specs.Lines.{call_seen};
 ghost use Rattle.script_text.specs.Scripts.{AreRead};
 ghost use Rattle.legal_spec.specs.Fits.{IsLegalFor};
 ghost use Rattle.replay_spec.specs.Plain.{IsPlain};
 ghost use Rattle.replay_spec.specs.Replays.{run_of, replayed};
-ghost use Rattle.script_replay.specs.Running.{seen, IsRunning};
+ghost use Rattle.script_replay.specs.Running.{run_seen, IsRunning};
 
 use crate::runner::Runner;
 use label_table::Labels;
@@ -36,8 +36,8 @@ fn run_lines(
     lines: Vec<Line<'_>>,
 ) -> Result<Runner, AllocError>
     requires lines { length lines.items ≤ most_lines }
-    requires names { length names.now ≤ most_tasks }
-    ensures { IfOk result (λ run. seen run ≡ run_of labels.now names.now (map call_seen lines.entry.items)) }
+    requires names { length names.now ≤ most_script_tasks }
+    ensures { IfOk result (λ run. run_seen run ≡ run_of labels.now names.now (map call_seen lines.entry.items)) }
 {
     let mut run = Runner::new(alloc)?;
     let mut left = lines;
@@ -56,7 +56,7 @@ fn report_of(
     names: NameList,
     run: Runner,
 ) -> Result<RunRecord, AllocError>
-    ensures { IfOk result (λ r. r ≡ record { labels = labels; names = names; journal = (seen run).journal; history = (seen run).history; asked = (seen run).asked }) }
+    ensures { IfOk result (λ r. r ≡ record { labels = labels; names = names; journal = (run_seen run).journal; history = (run_seen run).history; asked = (run_seen run).asked }) }
 {
     let Runner {
         rules: _,

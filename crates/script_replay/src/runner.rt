@@ -3,12 +3,12 @@ ghost use Rattle.rules_spec.specs.Creds.{is_effective};
 ghost use Rattle.rules_spec.specs.Rulings.{ruling};
 ghost use Rattle.file_spec.specs.Files.{compiled};
 ghost use Rattle.world_spec.specs.Worlds.{creds_of};
-ghost use Rattle.script_spec.specs.Grammar.{most_tasks};
+ghost use Rattle.script_spec.specs.Grammar.{most_script_tasks};
 ghost use Rattle.script_spec.specs.Lines.{word_in};
 ghost use Rattle.script_text.specs.Lines.{call_seen};
 ghost use Rattle.replay_spec.specs.Replays.{number_of_task, noted, after_act, after_line, published, written, stepped_by, run_first};
 ghost use Rattle.smack_world.specs.Stepping.{most_entries};
-ghost use Rattle.script_replay.specs.Running.{seen, IsRunning, Runs};
+ghost use Rattle.script_replay.specs.Running.{run_seen, IsRunning, Runs};
 
 use asked_lines::{AskedByTask, AskedLine, AskedWhat};
 use label_table::Labels;
@@ -35,7 +35,7 @@ pub struct Runner {
 impl Runner {
     /// No call has run.
     pub fn new(alloc: Global) -> Result<Runner, AllocError>
-        ensures first { IfOk result (λ run. seen run ≡ run_first) }
+        ensures first { IfOk result (λ run. run_seen run ≡ run_first) }
         ensures running { IfOk result IsRunning }
     {
         Ok(Runner {
@@ -48,8 +48,8 @@ impl Runner {
 
     /// The number of the task of a line.
     fn task_of(&self, line: &Line<'_>) -> u16
-        ensures number { result ≡ number_of_task (seen self.now) (call_seen line.now) }
-        ensures limit { result ≤ most_tasks }
+        ensures number { result ≡ number_of_task (run_seen self.now) (call_seen line.now) }
+        ensures limit { result ≤ most_script_tasks }
     {
         let made = self.world.tasks();
         match self.world.live_task(Pid(line.task)) {
@@ -62,7 +62,7 @@ impl Runner {
     fn publish(&mut self, line: &Line<'_>, ops: RuleOps) -> Result<(), AllocError>
         requires few { length self.old.journal < 2 ^ 32 - 1 }
         requires running { IsRunning self.old }
-        ensures { OnOk result (Runs self.old self.new (published (seen self.old) (call_seen line.now) ops)) }
+        ensures { OnOk result (Runs self.old self.new (published (run_seen self.old) (call_seen line.now) ops)) }
     {
         let batch = Batch {
             task: self.task_of(line),
@@ -77,7 +77,7 @@ impl Runner {
     /// Keeps a line that is neither a batch nor an object call.
     fn note(&mut self, line: &Line<'_>, what: AskedWhat) -> Result<(), AllocError>
         requires running { IsRunning self.old }
-        ensures { OnOk result (Runs self.old self.new (noted (seen self.old) (call_seen line.now) what)) }
+        ensures { OnOk result (Runs self.old self.new (noted (run_seen self.old) (call_seen line.now) what)) }
     {
         let task = self.task_of(line);
         let version = self.rules.version();
@@ -92,7 +92,7 @@ impl Runner {
     /// Keeps the line of a refused write.
     fn refuse(&mut self, alloc: Global, line: &Line<'_>, fault: Refusal) -> Result<(), AllocError>
         requires running { IsRunning self.old }
-        ensures { OnOk result (Runs self.old self.new (noted (seen self.old) (call_seen line.now) (AskedWhat.Refused (word_in 1 (call_seen line.now)) fault))) }
+        ensures { OnOk result (Runs self.old self.new (noted (run_seen self.old) (call_seen line.now) (AskedWhat.Refused (word_in 1 (call_seen line.now)) fault))) }
     {
         let file = Bytes::from_slice(alloc, words_of(line).one)?;
         self.note(line, AskedWhat::Refused { file, fault })
@@ -101,7 +101,7 @@ impl Runner {
     /// Whether the task of a line may change rules and settings in the newest version.
     fn may_write(&self, alloc: Global, line: &Line<'_>) -> bool
         requires running { IsRunning self.now }
-        ensures { result ≡ is_effective (creds_of self.now.world.world (number_of_task (seen self.now) (call_seen line.now))) Cap.MacAdmin (ruling self.now.journal) }
+        ensures { result ≡ is_effective (creds_of self.now.world.world (number_of_task (run_seen self.now) (call_seen line.now))) Cap.MacAdmin (ruling self.now.journal) }
     {
         match self.world.cred(self.task_of(line)) {
             Some(cred) => effective(cred, Cap::MacAdmin, &self.rules),
@@ -118,7 +118,7 @@ impl Runner {
     ) -> Result<(), AllocError>
         requires few { length self.old.journal < 2 ^ 32 - 1 }
         requires running { IsRunning self.old }
-        ensures { OnOk result (Runs self.old self.new (written (seen self.old) (call_seen line.now) (Ok (Compiled.Rules ops)))) }
+        ensures { OnOk result (Runs self.old self.new (written (run_seen self.old) (call_seen line.now) (Ok (Compiled.Rules ops)))) }
     {
         if self.may_write(alloc, line) {
             self.publish(line, ops)
@@ -132,7 +132,7 @@ impl Runner {
         requires few { length self.old.journal < 2 ^ 32 - 1 }
         requires running { IsRunning self.old }
         requires room { length self.old.world.trail < most_entries }
-        ensures { OnOk result (Runs self.old self.new (written (seen self.old) (call_seen line.now) (compiled labels.now (word_in 1 (call_seen line.now)) line.now.text.bytes.now))) }
+        ensures { OnOk result (Runs self.old self.new (written (run_seen self.old) (call_seen line.now) (compiled labels.now (word_in 1 (call_seen line.now)) line.now.text.bytes.now))) }
     {
         match compile(alloc, labels, words_of(line).one, line.text.bytes) {
             Ok(Compiled::Rules(ops)) => self.write_rules(alloc, line, ops),
@@ -151,7 +151,7 @@ impl Runner {
     fn enter(&mut self, alloc: Global, line: &Line<'_>, call: Call) -> Result<(), AllocError>
         requires running { IsRunning self.old }
         requires room { length self.old.world.trail < most_entries }
-        ensures { OnOk result (Runs self.old self.new (stepped_by (seen self.old) (call_seen line.now) call)) }
+        ensures { OnOk result (Runs self.old self.new (stepped_by (run_seen self.old) (call_seen line.now) call)) }
     {
         let task = self.task_of(line);
         match self.world.step(alloc, &self.rules, task, line.seq, call) {
@@ -172,7 +172,7 @@ impl Runner {
         requires few { length self.old.journal < 2 ^ 32 - 1 }
         requires running { IsRunning self.old }
         requires room { length self.old.world.trail < most_entries }
-        ensures { OnOk result (Runs self.old self.new (after_act labels.now (seen self.old) (call_seen line.now) act)) }
+        ensures { OnOk result (Runs self.old self.new (after_act labels.now (run_seen self.old) (call_seen line.now) act)) }
     {
         match act {
             Act::Write => self.write(alloc, labels, line),
@@ -197,8 +197,8 @@ impl Runner {
         requires few { length self.old.journal < 2 ^ 32 - 1 }
         requires running { IsRunning self.old }
         requires room { length self.old.world.trail < most_entries }
-        requires names { length names.now ≤ most_tasks }
-        ensures { OnOk result (Runs self.old self.new (after_line labels.now names.now (seen self.old) (call_seen line.now))) }
+        requires names { length names.now ≤ most_script_tasks }
+        ensures { OnOk result (Runs self.old self.new (after_line labels.now names.now (run_seen self.old) (call_seen line.now))) }
     {
         match act_of(alloc, labels, names, line)? {
             Some(act) => self.act(alloc, labels, line, act),

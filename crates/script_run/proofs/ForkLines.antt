@@ -9,14 +9,14 @@ use Rattle.script_spec.specs.Tasks.{task_names}
 use Rattle.script_text.specs.Scripts.{AreRead}
 use Rattle.replay_spec.specs.Acts.{call_of_line}
 use Rattle.replay_spec.specs.Plain.{IsNameTable}
-use Rattle.plain_records.proofs.GoodLines.{IsGoodLine, AreGoodLines, good_lines}
-use Rattle.plain_records.proofs.Tasks.{names_are_a_table}
-use Rattle.legal_replays.proofs.Growth.{tasks_more}
+use Rattle.plain_laws.proofs.GoodLines.{IsGoodLine, AreGoodLines, good_lines}
+use Rattle.plain_laws.proofs.Tasks.{names_are_a_table}
+use Rattle.legal_laws.proofs.Growth.{tasks_more}
 use Rattle.legal_spec.specs.Calls.{Stands}
 use Rattle.live_table.specs.Lists.{Has, here, there}
 use Rattle.live_table.proofs.Lists.{has_either, those_none}
-use Rattle.task_runs.specs.Scripts.{scripted, lines_by, ForksFirst}
-use Rattle.legal_runs.proofs.Places.{new_pid}
+use Rattle.runs_spec.specs.Scripts.{scripted, lines_by, ForksFirst}
+use Rattle.run_laws.proofs.Places.{new_pid}
 
 same_line : (x y : ScriptLine) → ◌≡◌ {A = Option ScriptLine} (Some x) (Some y) → x ≡ y
 same_line x y is = cc

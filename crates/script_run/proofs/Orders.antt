@@ -10,12 +10,12 @@ use Rattle.replay_spec.specs.declared.Act.{Act}
 use Rattle.replay_spec.specs.declared.Act.TheVariants as Act
 use Rattle.replay_spec.specs.Acts.{act_of_line, call_by}
 use Rattle.replay_spec.proofs.ReadCalls.{act_words}
-use Rattle.legal_replays.proofs.ForkLines.{fork_line}
-use Rattle.task_runs.specs.Scripts.{Scripted, ForksTask, segment}
-use Rattle.task_runs.specs.Meetings.{MeetAt}
-use Rattle.task_runs.specs.Orders.{open_after, IsOrderlyBehind, IsOrderly, IsDisorderly, NoneWaits}
-use Rattle.task_runs.proofs.Orders.{fork_between, fork_behind}
-use Rattle.task_runs.proofs.Segments.{cut, empty}
+use Rattle.legal_laws.proofs.ForkLines.{fork_line}
+use Rattle.runs_spec.specs.Scripts.{Scripted, ForksTask, segment}
+use Rattle.runs_spec.specs.Meetings.{MeetAt}
+use Rattle.runs_spec.specs.Orders.{open_after, IsOrderlyBehind, IsOrderly, IsDisorderly, NoneWaits}
+use Rattle.runs_spec.proofs.Orders.{fork_between, fork_behind}
+use Rattle.runs_spec.proofs.Segments.{cut, empty}
 use Rattle.script_acts.specs.Places.{IsWaitAt}
 
 -- a line that forks a task makes this call
@@ -35,7 +35,7 @@ module _ (s : Scripted) (l : ScriptLine) (ls : List ScriptLine) where
   act_behind Act.Write does not_so is = by_verb (Some Verb.Write) (act_words s.labels s.names l Act.Write does) is
   act_behind (Act.Ask subject object modes) does not_so is =
       by_verb (Some Verb.Ask) (act_words s.labels s.names l (Act.Ask subject object modes) does).0 is
-  act_behind (Act.Wait pid) does not_so is = 
+  act_behind (Act.Wait pid) does not_so is =
       absurd (by_verb (Some Verb.Wait) (act_words s.labels s.names l (Act.Wait pid) does).0 is)
   act_behind (Act.Fork pid) does not_so is = absurd (not_so pid refl)
   act_behind (Act.Make call) does not_so is =

@@ -12,12 +12,12 @@ use Rattle.smack_kernel.specs.Answers.{IsTrailFull, IsSeqFull, IsCalled, IsForke
 use Rattle.smack_kernel.specs.declared.turns.Entered.{Entered}
 use Rattle.smack_kernel.specs.declared.kernel.Called.{Called}
 use Rattle.smack_kernel.specs.declared.kernel.Called.TheVariants as Called
-use Rattle.task_runs.specs.Scripts.{Scripted, scripted, ForksTask, lines_by, segment}
-use Rattle.task_runs.specs.Runs.{Went, Ran}
-use Rattle.task_runs.specs.Stops.{IsOutOfEntries, IsOutOfCalls}
-use Rattle.task_runs.specs.Orders.{IsOrderly, NoneWaits}
-use Rattle.task_runs.proofs.Stops.{out_here, none_here, out_then, out_mine, out_theirs, none_mine, none_theirs, calls_mine, calls_theirs}
-use Rattle.task_runs.proofs.Segments.{cut, from_here}
+use Rattle.runs_spec.specs.Scripts.{Scripted, scripted, ForksTask, lines_by, segment}
+use Rattle.runs_spec.specs.Runs.{WentOver, Ran}
+use Rattle.runs_spec.specs.Stops.{IsOutOfEntries, IsOutOfCalls}
+use Rattle.runs_spec.specs.Orders.{IsOrderly, NoneWaits}
+use Rattle.runs_spec.proofs.Stops.{out_here, none_here, out_then, out_mine, out_theirs, none_mine, none_theirs, calls_mine, calls_theirs}
+use Rattle.runs_spec.proofs.Segments.{cut, from_here}
 use Rattle.script_run.specs.Stops.{IsCause, IsOwnStop, IsMeetCause, without_child}
 use Rattle.script_run.proofs.Orders.{fork_mine}
 use Rattle.script_run.specs.declared.making.Stop.{Stop}
@@ -57,7 +57,7 @@ pub cause_then : (s : Scripted) (ls mid mid' : List ScriptLine) (v u w : TaskVal
 cause_then s ls mid mid' v u w x y None ran e on cause = tt
 cause_then s ls mid mid' v u w x y (Some Stop.Memory) ran e on cause = tt
 cause_then s ls mid mid' v u w x y (Some Stop.TrailFull) ran e on cause =
-    out_then s ls mid v u w (subst (λ (rest : List ScriptLine). Went true s ls rest v u) (ran.on refl) ran.went)
+    out_then s ls mid v u w (subst (λ (rest : List ScriptLine). WentOver true s ls rest v u) (ran.on refl) ran.went)
     (subst (λ (rest : List ScriptLine). IsOutOfEntries s rest u w) (sym e) cause)
 cause_then s ls mid mid' v u w x y (Some Stop.NoChild) ran e on cause = cause
 cause_then s ls mid mid' v u w x y (Some Stop.SeqFull) ran e on cause = cause
@@ -92,8 +92,8 @@ module _ (s : Scripted) (p : ℕ) (child : Pid) (at until to last : ℕ) (l : Sc
   of_mine Stop.SeqFull d cause = calls_mine s u' c' w d cause
   of_mine Stop.Unscripted d cause = λ all is. cause all (fork_mine s p child at until to l low mid high forks none is)
 
-  went : Went (not b) s (lines_by child.0 s.lines) their_ran.left c c'
-  went = subst (λ (ls : List ScriptLine). Went (not b) s ls their_ran.left c c') all_lines their_ran.went
+  went : WentOver (not b) s (lines_by child.0 s.lines) their_ran.left c c'
+  went = subst (λ (ls : List ScriptLine). WentOver (not b) s ls their_ran.left c c') all_lines their_ran.went
 
   of_theirs : (stop : Stop) → Adopts u' c' w → IsCause s (segment child.0 at last s.lines) c c' stop → IsCause s (l ∷ segment p at to s.lines) v w stop
   of_theirs Stop.Memory d cause = tt

@@ -18,10 +18,10 @@ use Rattle.script_text.specs.declared.line.Line.{Line}
 use Rattle.smack_base.specs.declared.ids.Pid.{Pid}
 use Rattle.replay_spec.specs.declared.Act.TheVariants as Act
 use Rattle.replay_spec.proofs.ReadCalls.{act_words}
-use Rattle.task_runs.specs.Scripts.{lines_by, segment}
-use Rattle.task_runs.specs.Orders.{NoneWaits}
-use Rattle.task_runs.proofs.Segments.{cut}
-use Rattle.task_runs.proofs.Orders.{none_both}
+use Rattle.runs_spec.specs.Scripts.{lines_by, segment}
+use Rattle.runs_spec.specs.Orders.{NoneWaits}
+use Rattle.runs_spec.proofs.Segments.{cut}
+use Rattle.runs_spec.proofs.Orders.{none_both}
 use Rattle.script_run.specs.Waits.{is_wait, waits_from, AreOutside, AreNoWaits}
 
 -- one more line

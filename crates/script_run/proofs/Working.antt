@@ -29,17 +29,17 @@ use Rattle.smack_kernel.specs.declared.kernel.Written.{Written}
 use Rattle.smack_kernel.specs.declared.kernel.Written.TheVariants as Written
 use Rattle.smack_kernel.specs.declared.kernel.Asked.{Asked}
 use Rattle.smack_kernel.specs.declared.kernel.Asked.TheVariants as Asked
-use Rattle.task_runs.specs.Scripts.{Scripted, scripted, ForksTask, lines_by, segment}
-use Rattle.task_runs.specs.Runs.{Ran}
-use Rattle.task_runs.specs.Meetings.{MeetAt, Met}
-use Rattle.task_runs.proofs.Acts.{make_forks_nothing}
-use Rattle.task_runs.proofs.Runs.{stopped, ran_then}
-use Rattle.task_runs.proofs.Calls.{line_of, went_entry, ran_entry, ran_batch, ran_stopped, ran_unchanged, stays_self}
-use Rattle.task_runs.proofs.Lines.{ran_asked, ran_refused, ran_written}
-use Rattle.task_runs.proofs.Meetings.{LinesOn, fork_ran, met_stop, met_end, met_wait}
-use Rattle.task_runs.proofs.Segments.{cut, empty, from_here}
+use Rattle.runs_spec.specs.Scripts.{Scripted, scripted, ForksTask, lines_by, segment}
+use Rattle.runs_spec.specs.Runs.{Ran}
+use Rattle.runs_spec.specs.Meetings.{MeetAt, Met}
+use Rattle.runs_spec.proofs.Acts.{make_forks_nothing}
+use Rattle.runs_spec.proofs.Runs.{stopped, ran_then}
+use Rattle.runs_spec.proofs.Calls.{line_of, went_entry, ran_entry, ran_batch, ran_stopped, ran_unchanged, stays_self}
+use Rattle.runs_spec.proofs.Lines.{ran_asked, ran_refused, ran_written}
+use Rattle.runs_spec.proofs.Meetings.{LinesOn, fork_ran, met_stop, met_end, met_wait}
+use Rattle.runs_spec.proofs.Segments.{cut, empty, from_here}
 use Rattle.script_acts.specs.Places.{IsWaitAt}
-use Rattle.script_run.specs.Stages.{IsForked, IsAwaited}
+use Rattle.script_run.specs.Stages.{IsForkRun, IsWaitRun}
 use Rattle.script_run.specs.declared.making.Stop.{Stop}
 
 -- a fork that made no child
@@ -81,13 +81,13 @@ module _ (s : Scripted) (p : ℕ) (child : Pid) (at until to last place : ℕ) (
         }
 
 pub forked_some : (v w c : TaskValue) (pid : Pid) (called : Called) → IsKernelForked v w pid called (Some c) → LoadsOnce v w
-    → IsForked v w pid (Ok c)
+    → IsForkRun v w pid (Ok c)
 forked_some v w c pid (Called.Entry r) f once = (r, f.1, f.2, f.3, once)
 forked_some v w c pid (Called.TrailFull back) f once = absurd f
 forked_some v w c pid (Called.SeqFull back) f once = absurd f
 
 pub forked_none : (v w : TaskValue) (pid : Pid) (called : Called) (stop : Stop) → v.version ≤ length v.journal
-    → IsKernelForked v w pid called None → IsForked v w pid (Err stop)
+    → IsKernelForked v w pid called None → IsForkRun v w pid (Err stop)
 forked_none v w pid (Called.Entry r) stop top f = inr (r, f.1, f.2)
 forked_none v w pid (Called.TrailFull back) stop top f = inl f.0.1
 forked_none v w pid (Called.SeqFull back) stop top f = inl (subst (λ (u : TaskValue). Stays v u) (sym f.0.1) (stays_self v top))
@@ -159,7 +159,7 @@ module _ (s : Scripted) (pid : ℕ) (u c w : TaskValue) (asked told after : List
 
   -- a line waits for it
   pub meet_wait : (x : TaskValue) (stop : Bool) (lines : List AskedLine) → Adopts u c x → (a ≡ false) × (b ≡ false) × (lines ≡ asked ++ told)
-      → until < to → IsAwaited x w (record { 0 = pid }) stop lines after
+      → until < to → IsWaitRun x w (record { 0 = pid }) stop lines after
       → Met s pid a b stop u c w asked told after until to (until + 1)
   meet_wait x stop lines d on lt waits = ⊎_elim
       (λ no. subst (λ (z : Bool). Met s pid a b z u c w asked told after until to (until + 1)) (sym no.0)

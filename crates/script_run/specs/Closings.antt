@@ -5,7 +5,7 @@ use Rattle.script_text.specs.Scripts.{AreRead}
 use Rattle.record_spec.specs.declared.AskedLine.{AskedLine}
 use Rattle.smack_kernel.specs.Tasks.{TaskValue}
 use Rattle.smack_kernel.specs.Answers.{ClosedValue, Closes}
-use Rattle.legal_runs.specs.Laws.{FirstRan}
+use Rattle.run_laws.specs.Laws.{FirstRan}
 
 -- the lines are those of a script, and its tasks ran at a kernel, from its first task on and to their ends, and its first task closed it
 pub record HasRun (lines : List ScriptLine) (closed : ClosedValue) (asked : List AskedLine) : Type 0 where

@@ -3,9 +3,9 @@ use Rattle.script_spec.specs.Lines.{ScriptLine}
 use Rattle.smack_kernel.specs.Tasks.{TaskValue, Adopts, most_calls}
 use Rattle.smack_kernel.specs.declared.kernel.Called.{Called}
 use Rattle.smack_kernel.specs.declared.kernel.Called.TheVariants as Called
-use Rattle.task_runs.specs.Scripts.{Scripted}
-use Rattle.task_runs.specs.Stops.{IsOutOfEntries, IsOutOfCalls, HasForkedNone}
-use Rattle.task_runs.specs.Orders.{IsDisorderly}
+use Rattle.runs_spec.specs.Scripts.{Scripted}
+use Rattle.runs_spec.specs.Stops.{IsOutOfEntries, IsOutOfCalls, HasForkedNone}
+use Rattle.runs_spec.specs.Orders.{IsDisorderly}
 use Rattle.script_run.specs.declared.making.Stop.{Stop}
 use Rattle.script_run.specs.declared.making.Stop.TheVariants as Stop
 

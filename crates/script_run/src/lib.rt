@@ -6,8 +6,8 @@
 //! `script_replay` stand beside them.
 //!
 //! Stands on script_text for the calls of a script, on script_acts for what its lines do, on
-//! smack_kernel for the tasks, on asked_lines for the lines beside a record's calls, and on task_runs
-//! and legal_runs for the laws of runs.
+//! smack_kernel for the tasks, on asked_lines for the lines beside a record's calls, and on runs_spec
+//! and run_laws for the laws of runs.
 #![tactic(auto)]
 
 mod making;

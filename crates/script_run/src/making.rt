@@ -5,8 +5,8 @@ ghost use Rattle.script_spec.specs.Lines.{ScriptLine, word_in};
 ghost use Rattle.script_text.specs.Lines.{call_seen};
 ghost use Rattle.replay_spec.specs.Acts.{act_of_line};
 ghost use Rattle.smack_kernel.specs.Tasks.{most_calls};
-ghost use Rattle.task_runs.specs.Runs.{Ran};
-ghost use Rattle.script_run.specs.Stages.{script_of};
+ghost use Rattle.runs_spec.specs.Runs.{Ran};
+ghost use Rattle.script_run.specs.Stages.{stage_script};
 ghost use Rattle.script_run.specs.Stops.{IsCause};
 
 use crate::stage::{ScriptLines, Stage};
@@ -21,7 +21,7 @@ use std::alloc::Global;
 use std::sync::Wait;
 
 /// Why a worker stopped before its last line.
-#[derive(Clone, Copy, Debug, PartialEq, Eq)]
+#[derive(Clone, Copy, PartialEq, Eq)]
 pub enum Stop {
     /// Want of memory.
     Memory,
@@ -59,8 +59,8 @@ fn ask_line<S: ScriptLines>(
     requires table { task.old.table ≡ stage.kernel.now.table }
     requires top { task.old.version ≤ length task.old.journal }
     requires act { act_of_line stage.kernel.now.labels stage.names.now (call_seen line.now) ≡ Some (Act.Ask question.0 question.1 question.2) }
-    ensures ran { (ls : List ScriptLine) → Ran (is_some result) (script_of S.told stage.entry) (call_seen line.now ∷ ls) ls task.old task.new asked.old asked.new }
-    ensures cause { (ls : List ScriptLine) → IfSome result (IsCause (script_of S.told stage.entry) (call_seen line.now ∷ ls) task.old task.new) }
+    ensures ran { (ls : List ScriptLine) → Ran (is_some result) (stage_script S.told stage.entry) (call_seen line.now ∷ ls) ls task.old task.new asked.old asked.new }
+    ensures cause { (ls : List ScriptLine) → IfSome result (IsCause (stage_script S.told stage.entry) (call_seen line.now ∷ ls) task.old task.new) }
 {
     let (s, o, m) = question;
     let number = task.number();
@@ -118,8 +118,8 @@ fn write_line<R: Wait, S: ScriptLines>(
     requires table { task.old.table ≡ stage.kernel.now.table }
     requires top { task.old.version ≤ length task.old.journal }
     requires act { act_of_line stage.kernel.now.labels stage.names.now (call_seen line.now) ≡ Some Act.Write }
-    ensures ran { (ls : List ScriptLine) → Ran (is_some result) (script_of S.told stage.entry) (call_seen line.now ∷ ls) ls task.old task.new asked.old asked.new }
-    ensures cause { (ls : List ScriptLine) → IfSome result (IsCause (script_of S.told stage.entry) (call_seen line.now ∷ ls) task.old task.new) }
+    ensures ran { (ls : List ScriptLine) → Ran (is_some result) (stage_script S.told stage.entry) (call_seen line.now ∷ ls) ls task.old task.new asked.old asked.new }
+    ensures cause { (ls : List ScriptLine) → IfSome result (IsCause (stage_script S.told stage.entry) (call_seen line.now ∷ ls) task.old task.new) }
 {
     let number = task.number();
     let seq = task.made() + 1;
@@ -149,8 +149,8 @@ fn make_line<R: Wait, S: ScriptLines>(
     requires table { task.old.table ≡ stage.kernel.now.table }
     requires top { task.old.version ≤ length task.old.journal }
     requires act { act_of_line stage.kernel.now.labels stage.names.now (call_seen line.now) ≡ Some (Act.Make call) }
-    ensures ran { (ls : List ScriptLine) → Ran (is_some result) (script_of S.told stage.entry) (call_seen line.now ∷ ls) ls task.old task.new asked.old asked.new }
-    ensures cause { (ls : List ScriptLine) → IfSome result (IsCause (script_of S.told stage.entry) (call_seen line.now ∷ ls) task.old task.new) }
+    ensures ran { (ls : List ScriptLine) → Ran (is_some result) (stage_script S.told stage.entry) (call_seen line.now ∷ ls) ls task.old task.new asked.old asked.new }
+    ensures cause { (ls : List ScriptLine) → IfSome result (IsCause (stage_script S.told stage.entry) (call_seen line.now ∷ ls) task.old task.new) }
 {
     match stage.kernel.call(rt, alloc, task, call) {
         Ok(Called::Entry(_)) => None,
@@ -174,8 +174,8 @@ pub fn plain_line<R: Wait, S: ScriptLines>(
     requires top { task.old.version ≤ length task.old.journal }
     requires act { act_of_line stage.kernel.now.labels stage.names.now (call_seen line.now) ≡ Some act }
     requires plain { (pid : Pid) → act ≡ Act.Fork pid → ⊥ }
-    ensures ran { (ls : List ScriptLine) → Ran (is_some result) (script_of S.told stage.entry) (call_seen line.now ∷ ls) ls task.old task.new asked.old asked.new }
-    ensures cause { (ls : List ScriptLine) → IfSome result (IsCause (script_of S.told stage.entry) (call_seen line.now ∷ ls) task.old task.new) }
+    ensures ran { (ls : List ScriptLine) → Ran (is_some result) (stage_script S.told stage.entry) (call_seen line.now ∷ ls) ls task.old task.new asked.old asked.new }
+    ensures cause { (ls : List ScriptLine) → IfSome result (IsCause (stage_script S.told stage.entry) (call_seen line.now ∷ ls) task.old task.new) }
 {
     match act {
         Act::Write => write_line(rt, alloc, stage, task, asked, line),

@@ -2,7 +2,7 @@ ghost use Rattle.std.specs.Prelude.{◌≡◌, IfOk, IfErr};
 ghost use Rattle.script_spec.specs.Lines.{table_of};
 ghost use Rattle.replay_spec.specs.Plain.{IsPlain};
 ghost use Rattle.legal_spec.specs.Fits.{IsLegalFor};
-ghost use Rattle.legal_runs.specs.Laws.{run_record};
+ghost use Rattle.run_laws.specs.Laws.{run_record};
 ghost use Rattle.script_run.specs.Closings.{HasRun};
 
 use crate::making::Stop;

@@ -1,10 +1,10 @@
 ghost use Rattle.std.specs.Prelude.{◌≡◌, ◌≤◌, ◌<◌, ◌+◌, [], ◌∷◌, ℕ, List, length, take, drop, map, MatchOption, IfOk, IfSome};
-ghost use Rattle.script_spec.specs.Grammar.{most_tasks};
+ghost use Rattle.script_spec.specs.Grammar.{most_script_tasks};
 ghost use Rattle.script_spec.specs.Lines.{ScriptLine};
 ghost use Rattle.script_text.specs.Lines.{call_seen};
 ghost use Rattle.legal_spec.specs.Calls.{Stands};
-ghost use Rattle.task_runs.specs.Scripts.{segment};
-ghost use Rattle.task_runs.specs.Orders.{NoneWaits};
+ghost use Rattle.runs_spec.specs.Scripts.{segment};
+ghost use Rattle.runs_spec.specs.Orders.{NoneWaits};
 ghost use Rattle.script_acts.specs.Places.{IsWaitAt};
 ghost use Rattle.script_run.specs.Waits.{AreNoWaits};
 
@@ -125,7 +125,7 @@ pub fn wait_place<S: ScriptLines>(
     from: usize,
     to: usize,
 ) -> usize
-    requires names { length stage.names.now ≤ most_tasks }
+    requires names { length stage.names.now ≤ most_script_tasks }
     requires place { (from ≤ to) × (to ≤ length (S.told stage.script.now)) }
     ensures place { (from ≤ result) × (result ≤ to) }
     ensures line { result < to → IsWaitAt stage.entry.names.now (S.told stage.entry.script.now) pid child result to }

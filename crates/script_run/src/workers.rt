@@ -1,16 +1,16 @@
 ghost use Rattle.std.specs.Prelude.{◌⊎◌, ◌≡◌, ◌≤◌, ◌<◌, ◌+◌, [], ◌∷◌, ◌++◌, ℕ, List, length, take, Some, false, is_some, IfSome};
 ghost use Rattle.std.specs.Bool.{OnFalse};
-ghost use Rattle.script_spec.specs.Grammar.{most_tasks};
+ghost use Rattle.script_spec.specs.Grammar.{most_script_tasks};
 ghost use Rattle.script_spec.specs.Lines.{ScriptLine, table_of};
 ghost use Rattle.script_text.specs.Lines.{call_seen};
 ghost use Rattle.replay_spec.specs.Acts.{act_of_line};
 ghost use Rattle.legal_spec.specs.Calls.{Stands};
-ghost use Rattle.task_runs.specs.Scripts.{scripted, ForksTask, ForksFirst, segment, lines_by};
-ghost use Rattle.task_runs.specs.Runs.{Ran};
-ghost use Rattle.task_runs.specs.Meetings.{Met};
-ghost use Rattle.task_runs.specs.Orders.{IsOrderly};
+ghost use Rattle.runs_spec.specs.Scripts.{scripted, ForksTask, ForksFirst, segment, lines_by};
+ghost use Rattle.runs_spec.specs.Runs.{Ran};
+ghost use Rattle.runs_spec.specs.Meetings.{Met};
+ghost use Rattle.runs_spec.specs.Orders.{IsOrderly};
 ghost use Rattle.script_run.specs.Shared.{script_in};
-ghost use Rattle.script_run.specs.Stages.{script_of, IsForked, IsAwaited};
+ghost use Rattle.script_run.specs.Stages.{stage_script, IsForkRun, IsWaitRun};
 ghost use Rattle.script_run.specs.Stops.{IsCause, IsForkCause, IsOwnStop, IsMeetCause, without_child};
 
 use crate::making::{Stop, note, plain_line};
@@ -62,7 +62,7 @@ fn fork<R: Wait>(
 ) -> Result<Task, Stop>
     requires table { task.old.table ≡ kernel.now.table }
     requires top { task.old.version ≤ length task.old.journal }
-    ensures forked { IsForked task.old task.new child result }
+    ensures forked { IsForkRun task.old task.new child result }
     ensures cause { IsForkCause task.old task.new result }
 {
     let Ok((called, kid)) = kernel.fork(rt, alloc, task, child) else {
@@ -100,7 +100,7 @@ fn gather(
 /// Runs the line by which a task waits for a child that it has adopted.
 fn wait_line(kernel: &Kernel, task: &mut Task, asked: &mut AskedBlocks, child: Pid) -> Option<Stop>
     requires table { task.old.table ≡ kernel.now.table }
-    ensures awaited { IsAwaited task.old task.new child (is_some result) asked.old asked.new }
+    ensures awaited { IsWaitRun task.old task.new child (is_some result) asked.old asked.new }
     ensures cause { IfSome result (IsOwnStop task.new) }
 {
     let number = task.number();
@@ -129,7 +129,7 @@ fn meet<S: ScriptLines>(
 ) -> Reached
     requires tables { (mine.task.table ≡ stage.kernel.now.table) × (theirs.task.table ≡ stage.kernel.now.table) }
     requires place { until ≤ to }
-    ensures met { Met (script_of S.told stage.entry) child.0 (is_some mine.stop) (is_some theirs.stop) (is_some result.worked.stop) mine.task theirs.task result.worked.task mine.asked theirs.asked result.worked.asked until to result.at }
+    ensures met { Met (stage_script S.told stage.entry) child.0 (is_some mine.stop) (is_some theirs.stop) (is_some result.worked.stop) mine.task theirs.task result.worked.task mine.asked theirs.asked result.worked.asked until to result.at }
     ensures cause { IfSome result.worked.stop (IsMeetCause mine.stop theirs.stop mine.task theirs.task result.worked.task) }
 {
     let Worked {
@@ -172,10 +172,10 @@ fn plain_step<R: Wait, S: ScriptLines>(
     requires top { task.version ≤ length task.journal }
     requires act { act_of_line stage.kernel.now.labels stage.names.now (call_seen line.now) ≡ Some act }
     requires plain { (pid : Pid) → act ≡ Act.Fork pid → ⊥ }
-    ensures ran { (ls : List ScriptLine) → Ran (is_some result.worked.stop) (script_of S.told stage.entry) (call_seen line.now ∷ ls) ls task result.worked.task asked result.worked.asked }
-    ensures cause { (ls : List ScriptLine) → IfSome result.worked.stop (IsCause (script_of S.told stage.entry) (call_seen line.now ∷ ls) task result.worked.task) }
+    ensures ran { (ls : List ScriptLine) → Ran (is_some result.worked.stop) (stage_script S.told stage.entry) (call_seen line.now ∷ ls) ls task result.worked.task asked result.worked.asked }
+    ensures cause { (ls : List ScriptLine) → IfSome result.worked.stop (IsCause (stage_script S.told stage.entry) (call_seen line.now ∷ ls) task result.worked.task) }
     ensures at { result.at ≡ at }
-    ensures orderly { (ls : List ScriptLine) → IsOrderly (script_of S.told stage.entry) (call_seen line.now ∷ ls) → IsOrderly (script_of S.told stage.entry) ls }
+    ensures orderly { (ls : List ScriptLine) → IsOrderly (stage_script S.told stage.entry) (call_seen line.now ∷ ls) → IsOrderly (stage_script S.told stage.entry) ls }
 {
     let stop = plain_line(rt, alloc, stage, &mut task, &mut asked, line, act);
     Reached {
@@ -202,7 +202,7 @@ fn go_by_parts<R: Threads + Wait + Sync, G: Gate + Sync, S: ScriptLines + Sync>(
     requires table { task.table ≡ kernel.now.table }
     requires top { task.version ≤ length task.journal }
     requires place { (from ≤ to) × (to ≤ length (S.told script.now)) }
-    requires names { length names.now ≤ most_tasks }
+    requires names { length names.now ≤ most_script_tasks }
     requires forks { ForksFirst (script_in kernel.now.labels names.now (S.told script.now)) }
     ensures ran { Ran (is_some result.stop) (script_in kernel.now.labels names.now (S.told script.now)) (segment pid from to (S.told script.now)) [] task result.task asked result.asked }
     ensures cause { IfSome result.stop (IsCause (script_in kernel.now.labels names.now (S.told script.now)) (segment pid from to (S.told script.now)) task result.task) }
@@ -233,12 +233,12 @@ fn halves<R: Threads + Wait + Sync, G: Gate + Sync, S: ScriptLines + Sync>(
     requires tables { (task.table ≡ stage.kernel.now.table) × (kid.table ≡ stage.kernel.now.table) }
     requires top { (task.version ≤ length task.journal) × (kid.version ≤ length kid.journal) }
     requires place { (at ≤ until) × (until ≤ length (S.told stage.script.now)) }
-    requires names { length stage.names.now ≤ most_tasks }
-    requires forks { ForksFirst (script_of S.told stage) }
-    ensures mine { Ran (is_some result.0.stop) (script_of S.told stage.entry) (segment pid at until (S.told stage.entry.script.now)) [] task result.0.task asked result.0.asked }
-    ensures theirs { Ran (is_some result.1.stop) (script_of S.told stage.entry) (segment child at (length (S.told stage.entry.script.now)) (S.told stage.entry.script.now)) [] kid result.1.task [] result.1.asked }
-    ensures my_cause { IfSome result.0.stop (IsCause (script_of S.told stage.entry) (segment pid at until (S.told stage.entry.script.now)) task result.0.task) }
-    ensures their_cause { IfSome result.1.stop (IsCause (script_of S.told stage.entry) (segment child at (length (S.told stage.entry.script.now)) (S.told stage.entry.script.now)) kid result.1.task) }
+    requires names { length stage.names.now ≤ most_script_tasks }
+    requires forks { ForksFirst (stage_script S.told stage) }
+    ensures mine { Ran (is_some result.0.stop) (stage_script S.told stage.entry) (segment pid at until (S.told stage.entry.script.now)) [] task result.0.task asked result.0.asked }
+    ensures theirs { Ran (is_some result.1.stop) (stage_script S.told stage.entry) (segment child at (length (S.told stage.entry.script.now)) (S.told stage.entry.script.now)) [] kid result.1.task [] result.1.asked }
+    ensures my_cause { IfSome result.0.stop (IsCause (stage_script S.told stage.entry) (segment pid at until (S.told stage.entry.script.now)) task result.0.task) }
+    ensures their_cause { IfSome result.1.stop (IsCause (stage_script S.told stage.entry) (segment child at (length (S.told stage.entry.script.now)) (S.told stage.entry.script.now)) kid result.1.task) }
 {
     let Stage {
         kernel,
@@ -248,7 +248,7 @@ fn halves<R: Threads + Wait + Sync, G: Gate + Sync, S: ScriptLines + Sync>(
     join(
         rt,
         || -> Worked
-            requires { (task.table ≡ kernel.now.table) × (task.version ≤ length task.journal) × (at ≤ until) × (until ≤ length (S.told script.now)) × (length names.now ≤ most_tasks) × ForksFirst (script_in kernel.now.labels names.now (S.told script.now)) }
+            requires { (task.table ≡ kernel.now.table) × (task.version ≤ length task.journal) × (at ≤ until) × (until ≤ length (S.told script.now)) × (length names.now ≤ most_script_tasks) × ForksFirst (script_in kernel.now.labels names.now (S.told script.now)) }
             ensures ran { Ran (is_some result.stop) (script_in kernel.entry.now.labels names.entry.now (S.told script.entry.now)) (segment pid at until (S.told script.entry.now)) [] task result.task asked result.asked }
             ensures cause { IfSome result.stop (IsCause (script_in kernel.entry.now.labels names.entry.now (S.told script.entry.now)) (segment pid at until (S.told script.entry.now)) task result.task) }
         {
@@ -257,7 +257,7 @@ fn halves<R: Threads + Wait + Sync, G: Gate + Sync, S: ScriptLines + Sync>(
             )
         },
         || -> Worked
-            requires { (kid.table ≡ kernel.now.table) × (kid.version ≤ length kid.journal) × (at ≤ length (S.told script.now)) × (length names.now ≤ most_tasks) × ForksFirst (script_in kernel.now.labels names.now (S.told script.now)) }
+            requires { (kid.table ≡ kernel.now.table) × (kid.version ≤ length kid.journal) × (at ≤ length (S.told script.now)) × (length names.now ≤ most_script_tasks) × ForksFirst (script_in kernel.now.labels names.now (S.told script.now)) }
             ensures ran { Ran (is_some result.stop) (script_in kernel.entry.now.labels names.entry.now (S.told script.entry.now)) (segment child at (length (S.told script.entry.now)) (S.told script.entry.now)) [] kid result.task [] result.asked }
             ensures cause { IfSome result.stop (IsCause (script_in kernel.entry.now.labels names.entry.now (S.told script.entry.now)) (segment child at (length (S.told script.entry.now)) (S.told script.entry.now)) kid result.task) }
         {
@@ -289,14 +289,14 @@ fn fork_line<R: Threads + Wait + Sync, G: Gate + Sync, S: ScriptLines + Sync>(
     requires table { task.table ≡ stage.kernel.now.table }
     requires top { task.version ≤ length task.journal }
     requires place { (at ≤ to) × (to ≤ length (S.told stage.script.now)) }
-    requires names { length stage.names.now ≤ most_tasks }
-    requires forks { ForksFirst (script_of S.told stage) }
+    requires names { length stage.names.now ≤ most_script_tasks }
+    requires forks { ForksFirst (stage_script S.told stage) }
     requires first { lines_by child.0 (take at (S.told stage.script.now)) ≡ [] }
-    requires line { ForksTask (script_of S.told stage) (call_seen line.now) child.0 }
-    ensures ran { Ran (is_some result.worked.stop) (script_of S.told stage.entry) (call_seen line.now ∷ segment pid at to (S.told stage.entry.script.now)) (segment pid result.at to (S.told stage.entry.script.now)) task result.worked.task asked result.worked.asked }
+    requires line { ForksTask (stage_script S.told stage) (call_seen line.now) child.0 }
+    ensures ran { Ran (is_some result.worked.stop) (stage_script S.told stage.entry) (call_seen line.now ∷ segment pid at to (S.told stage.entry.script.now)) (segment pid result.at to (S.told stage.entry.script.now)) task result.worked.task asked result.worked.asked }
     ensures place { is_some result.worked.stop ≡ false → (at ≤ result.at) × (result.at ≤ to) }
-    ensures orderly { is_some result.worked.stop ≡ false → IsOrderly (script_of S.told stage.entry) (call_seen line.now ∷ segment pid at to (S.told stage.entry.script.now)) → IsOrderly (script_of S.told stage.entry) (segment pid result.at to (S.told stage.entry.script.now)) }
-    ensures cause { IfSome result.worked.stop (IsCause (script_of S.told stage.entry) (call_seen line.now ∷ segment pid at to (S.told stage.entry.script.now)) task result.worked.task) }
+    ensures orderly { is_some result.worked.stop ≡ false → IsOrderly (stage_script S.told stage.entry) (call_seen line.now ∷ segment pid at to (S.told stage.entry.script.now)) → IsOrderly (stage_script S.told stage.entry) (segment pid result.at to (S.told stage.entry.script.now)) }
+    ensures cause { IfSome result.worked.stop (IsCause (stage_script S.told stage.entry) (call_seen line.now ∷ segment pid at to (S.told stage.entry.script.now)) task result.worked.task) }
 {
     match fork(rt, alloc, stage.kernel, &mut task, child) {
         Err(stop) => Reached {
@@ -334,13 +334,13 @@ fn step<R: Threads + Wait + Sync, G: Gate + Sync, S: ScriptLines + Sync>(
     requires table { task.table ≡ stage.kernel.now.table }
     requires top { task.version ≤ length task.journal }
     requires place { (at ≤ to) × (to ≤ length (S.told stage.script.now)) }
-    requires names { length stage.names.now ≤ most_tasks }
-    requires forks { ForksFirst (script_of S.told stage) }
+    requires names { length stage.names.now ≤ most_script_tasks }
+    requires forks { ForksFirst (stage_script S.told stage) }
     requires here { (n : ℕ) × Stands (S.told stage.script.now) n (call_seen line.now) × (at ≡ n + 1) }
-    ensures ran { Ran (is_some result.worked.stop) (script_of S.told stage.entry) (call_seen line.now ∷ segment pid at to (S.told stage.entry.script.now)) (segment pid result.at to (S.told stage.entry.script.now)) task result.worked.task asked result.worked.asked }
+    ensures ran { Ran (is_some result.worked.stop) (stage_script S.told stage.entry) (call_seen line.now ∷ segment pid at to (S.told stage.entry.script.now)) (segment pid result.at to (S.told stage.entry.script.now)) task result.worked.task asked result.worked.asked }
     ensures place { is_some result.worked.stop ≡ false → (at ≤ result.at) × (result.at ≤ to) }
-    ensures orderly { is_some result.worked.stop ≡ false → IsOrderly (script_of S.told stage.entry) (call_seen line.now ∷ segment pid at to (S.told stage.entry.script.now)) → IsOrderly (script_of S.told stage.entry) (segment pid result.at to (S.told stage.entry.script.now)) }
-    ensures cause { IfSome result.worked.stop (IsCause (script_of S.told stage.entry) (call_seen line.now ∷ segment pid at to (S.told stage.entry.script.now)) task result.worked.task) }
+    ensures orderly { is_some result.worked.stop ≡ false → IsOrderly (stage_script S.told stage.entry) (call_seen line.now ∷ segment pid at to (S.told stage.entry.script.now)) → IsOrderly (stage_script S.told stage.entry) (segment pid result.at to (S.told stage.entry.script.now)) }
+    ensures cause { IfSome result.worked.stop (IsCause (stage_script S.told stage.entry) (call_seen line.now ∷ segment pid at to (S.told stage.entry.script.now)) task result.worked.task) }
 {
     let stop = match act_of(alloc, stage.kernel.labels(), stage.names, line) {
         Ok(Some(Act::Fork(child))) => {
@@ -386,10 +386,10 @@ fn go<R: Threads + Wait + Sync, G: Gate + Sync, S: ScriptLines + Sync>(
     requires table { task.table ≡ stage.kernel.now.table }
     requires top { task.version ≤ length task.journal }
     requires place { (from ≤ to) × (to ≤ length (S.told stage.script.now)) }
-    requires names { length stage.names.now ≤ most_tasks }
-    requires forks { ForksFirst (script_of S.told stage) }
-    ensures ran { Ran (is_some result.stop) (script_of S.told stage.entry) (segment pid from to (S.told stage.entry.script.now)) [] task result.task asked result.asked }
-    ensures cause { IfSome result.stop (IsCause (script_of S.told stage.entry) (segment pid from to (S.told stage.entry.script.now)) task result.task) }
+    requires names { length stage.names.now ≤ most_script_tasks }
+    requires forks { ForksFirst (stage_script S.told stage) }
+    ensures ran { Ran (is_some result.stop) (stage_script S.told stage.entry) (segment pid from to (S.told stage.entry.script.now)) [] task result.task asked result.asked }
+    ensures cause { IfSome result.stop (IsCause (stage_script S.told stage.entry) (segment pid from to (S.told stage.entry.script.now)) task result.task) }
 {
     let mut task = task;
     let mut asked = asked;

@@ -9,7 +9,7 @@ use Rattle.script_spec.specs.declared.Verb.TheVariants as Verb
 use Rattle.script_spec.specs.declared.Cause.{Cause}
 use Rattle.script_spec.specs.declared.Cause.TheVariants as Cause
 use Rattle.script_spec.specs.Words.{verb_of, kinds_of, is_unbuilt_verb, is_unbuilt_file, is_task_name, bad_word, has_deep_path, word_at}
-use Rattle.script_spec.specs.Tasks.{Tasks, is_there, pid_of, is_live, is_latest_child}
+use Rattle.script_spec.specs.Tasks.{Tasks, is_there, pid_of, is_live_name, is_latest_child}
 
 abbrev pub cause_if : Bool → Cause → Option Cause
 cause_if bad cause = if bad then Some cause else None
@@ -47,7 +47,7 @@ is_wait_good tasks task verb ws = true
 -- what is wrong with the tasks of a line of this verb, behind calls that say this of tasks
 abbrev pub task_causes : Tasks → List ℕ → Verb → List Placed → List (Option Cause)
 task_causes tasks task verb ws =
-    cause_if (not (is_live tasks task)) Cause.Task
+    cause_if (not (is_live_name tasks task)) Cause.Task
     ∷ cause_if (not (is_name_good tasks verb ws)) Cause.Name
     ∷ cause_if (not (is_wait_good tasks (pid_of tasks task) verb ws)) Cause.Wait ∷ []
 

@@ -30,8 +30,8 @@ abbrev pub most_labels : ℕ
 most_labels = 65535
 
 -- the most tasks of a script, the first one included
-abbrev pub most_tasks : ℕ
-most_tasks = 64
+abbrev pub most_script_tasks : ℕ
+most_script_tasks = 64
 
 abbrev pub spaced_words : TextLine → List Placed
 spaced_words l = words_from is_space l.at l.bytes
@@ -111,14 +111,14 @@ abbrev pub fault_if : Bool → ScriptFault → Option ScriptFault
 fault_if bad fault = if bad then Some fault else None
 
 -- the first fault of some, in their order
-abbrev pub first_of : List (Option ScriptFault) → Option ScriptFault
-first_of [] = None
-first_of (None ∷ more) = first_of more
-first_of (Some f ∷ more) = Some f
+abbrev pub first_script_fault : List (Option ScriptFault) → Option ScriptFault
+first_script_fault [] = None
+first_script_fault (None ∷ more) = first_script_fault more
+first_script_fault (Some f ∷ more) = Some f
 
 -- the limits: the tasks of a script, the bytes of a text, the rows of a journal, the labels of a script
 abbrev pub tasks_fault : List (List ℕ) → Option ScriptFault
-tasks_fault names = fault_if (nat_lt most_tasks (length names)) (ScriptFault.TooLarge What.Tasks)
+tasks_fault names = fault_if (nat_lt most_script_tasks (length names)) (ScriptFault.TooLarge What.Tasks)
 
 abbrev pub text_fault : ScriptLine → Option ScriptFault
 text_fault l = fault_if (nat_lt most_text (length l.text.bytes)) (ScriptFault.TooLarge What.Text)
@@ -137,20 +137,20 @@ limit_faults lines last =
 -- what an item breaks behind the calls above it: the limit of lines, then the grammar, then the other limits
 abbrev pub item_fault : List ScriptLine → Item → Option ScriptFault
 item_fault above i = let call = call_of above i in
-    first_of
+    first_script_fault
     (fault_if (nat_lt most_lines i.line) (ScriptFault.TooLarge What.Lines)
     ∷ option_map (λ cause. ScriptFault.Malformed i.line cause) (line_cause (tasks_of above) i.words (has_text i))
     ∷ limit_faults (above ++ call ∷ []) call)
 
-abbrev pub unless_fault : Option ScriptFault → Result (List ScriptLine) ScriptFault → Result (List ScriptLine) ScriptFault
-unless_fault None more = more
-unless_fault (Some e) more = Err e
+abbrev pub unless_script_fault : Option ScriptFault → Result (List ScriptLine) ScriptFault → Result (List ScriptLine) ScriptFault
+unless_script_fault None more = more
+unless_script_fault (Some e) more = Err e
 
 -- the calls above and those of items, or the first fault; what stands behind the items may have one, too
 abbrev pub calls_of : Option ScriptFault → List ScriptLine → List Item → Result (List ScriptLine) ScriptFault
-calls_of behind above [] = unless_fault behind (Ok above)
+calls_of behind above [] = unless_script_fault behind (Ok above)
 calls_of behind above (i ∷ is) =
-    unless_fault (item_fault above i) (calls_of behind (above ++ call_of above i ∷ []) is)
+    unless_script_fault (item_fault above i) (calls_of behind (above ++ call_of above i ∷ []) is)
 
 -- lines are too many, whatever stands in the last of them
 abbrev pub lines_fault : List TextLine → Option ScriptFault

@@ -64,9 +64,9 @@ rows_by (Some Verb.Write) l = rows_of_text (file_of (word_in 1 l)) l.text.bytes
 rows_by verb l = 0
 
 -- the rows of a journal that a call takes
-abbrev pub rows_of : ScriptLine → ℕ
-rows_of l = rows_by (verb_in l) l
+abbrev pub line_rows : ScriptLine → ℕ
+line_rows l = rows_by (verb_in l) l
 
 -- the rows that some calls take
 abbrev pub rows_in : List ScriptLine → ℕ
-rows_in lines = sum_by rows_of lines
+rows_in lines = sum_by line_rows lines

@@ -114,8 +114,8 @@ abbrev pub is_gone : Tasks → ℕ → Bool
 is_gone tasks task = list_any tasks.awaited (lineage tasks.parents task)
 
 -- a task is live here: it is there, it has not exited, and neither it nor one that it descends from was waited for
-abbrev pub is_live : Tasks → List ℕ → Bool
-is_live tasks name =
+abbrev pub is_live_name : Tasks → List ℕ → Bool
+is_live_name tasks name =
     is_there tasks name && not (tasks.exited (pid_of tasks name)) && not (is_gone tasks (pid_of tasks name))
 
 abbrev pub is_pid : Option ℕ → ℕ → Bool

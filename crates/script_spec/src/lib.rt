@@ -8,10 +8,8 @@
 //! is the first bad one, and why.
 #![tactic(auto)]
 
-use thiserror::Error;
-
 /// The verbs of calls on tasks that leave the tasks of a script as they are.
-#[derive(Clone, Copy, Debug, PartialEq, Eq)]
+#[derive(Clone, Copy, PartialEq, Eq)]
 pub enum TaskVerb {
     /// `relabel LABEL`: takes another label.
     Relabel,
@@ -26,7 +24,7 @@ pub enum TaskVerb {
 }
 
 /// The verbs of calls on the file tree.
-#[derive(Clone, Copy, Debug, PartialEq, Eq)]
+#[derive(Clone, Copy, PartialEq, Eq)]
 pub enum TreeVerb {
     /// `create PATH`: makes an empty file.
     Create,
@@ -37,7 +35,7 @@ pub enum TreeVerb {
 }
 
 /// The verbs of object calls, by families, as the calls come; `fork` and `exit` are not among them.
-#[derive(Clone, Copy, Debug, PartialEq, Eq)]
+#[derive(Clone, Copy, PartialEq, Eq)]
 pub enum CallVerb {
     /// A call on tasks.
     Task(TaskVerb),
@@ -47,7 +45,7 @@ pub enum CallVerb {
 
 /// What a line of a script does: its second word. What changes the tasks of a script has a verb of
 /// its own; all else that makes an object call is a `Call`.
-#[derive(Clone, Copy, Debug, PartialEq, Eq)]
+#[derive(Clone, Copy, PartialEq, Eq)]
 pub enum Verb {
     /// `write FILE N`: writes the next N lines to a smackfs file.
     Write,
@@ -64,7 +62,7 @@ pub enum Verb {
 }
 
 /// How `trace` asks for a task.
-#[derive(Clone, Copy, Debug, PartialEq, Eq)]
+#[derive(Clone, Copy, PartialEq, Eq)]
 pub enum TraceWay {
     /// `read`: looks at it.
     Read,
@@ -73,7 +71,7 @@ pub enum TraceWay {
 }
 
 /// What a word behind a verb may be. A kind may look at the words before it.
-#[derive(Clone, Copy, Debug, PartialEq, Eq)]
+#[derive(Clone, Copy, PartialEq, Eq)]
 pub enum WordKind {
     /// A label.
     Label,
@@ -98,7 +96,7 @@ pub enum WordKind {
 /// Why a line is not in the grammar of scripts, the first that applies: `Word { k: 1 }`, `Verb`,
 /// `NotBuilt`, `Words`, `Word`, `Text`, `Task`, `Name`, `Wait`; a path that is not built comes behind
 /// the kinds of the words.
-#[derive(Clone, Copy, Debug, PartialEq, Eq)]
+#[derive(Clone, Copy, PartialEq, Eq)]
 pub enum Cause {
     /// The task does not run here: it is not `init` and no line above forks it, or it has exited, or
     /// it or a task that it descends from was waited for.
@@ -121,7 +119,7 @@ pub enum Cause {
 }
 
 /// The limit that an input exceeds.
-#[derive(Clone, Copy, Debug, PartialEq, Eq)]
+#[derive(Clone, Copy, PartialEq, Eq)]
 pub enum What {
     /// Bytes of the input.
     Bytes,
@@ -138,15 +136,12 @@ pub enum What {
 }
 
 /// Why bytes are no script.
-#[derive(Clone, Copy, Debug, PartialEq, Eq, Error)]
+#[derive(Clone, Copy, PartialEq, Eq)]
 pub enum ScriptFault {
     /// The first bad line, from 1, and why it is bad.
-    #[error("line {line} is not in the grammar")]
     Malformed { line: u32, cause: Cause },
     /// The limit that is exceeded first.
-    #[error("the script is too large")]
     TooLarge { what: What },
     /// Want of memory.
-    #[error("out of memory")]
     Memory,
 }

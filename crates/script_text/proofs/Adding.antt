@@ -7,9 +7,9 @@ use Rattle.std.proofs.lemmas.List.Sums.{sum_by-append, count_by-le-length}
 use Rattle.std.proofs.lemmas.Grind.{fold-append, flat_map-append}
 use Rattle.text_spec.specs.Names.{with_name, with_names, predefined}
 use Rattle.script_spec.specs.declared.ScriptFault.{ScriptFault}
-use Rattle.script_spec.specs.Lines.{ScriptLine, labels_of, rows_of, rows_in, table_of}
+use Rattle.script_spec.specs.Lines.{ScriptLine, labels_of, line_rows, rows_in, table_of}
 use Rattle.script_spec.specs.Tasks.{Tasks, tasks_of, task_names, change_of, forked_name}
-use Rattle.script_spec.specs.Grammar.{first_of, tasks_fault, text_fault, rows_fault, labels_fault, limit_faults, item_fault, call_in, call_of, most_tasks, most_text, most_rows, most_lines, most_labels}
+use Rattle.script_spec.specs.Grammar.{first_script_fault, tasks_fault, text_fault, rows_fault, labels_fault, limit_faults, item_fault, call_in, call_of, most_script_tasks, most_text, most_rows, most_lines, most_labels}
 use Rattle.script_text.specs.declared.reading.Draft.{Draft}
 use Rattle.script_text.specs.declared.reading.Found.{Found}
 use Rattle.script_text.specs.declared.reading.Place.{Place}
@@ -17,7 +17,7 @@ use Rattle.script_text.specs.declared.spelled.Spelled.{Spelled}
 use Rattle.script_text.specs.Spelled.{spelled_seen}
 use Rattle.script_text.specs.declared.line.Line.{Line}
 use Rattle.script_text.specs.Lines.{call_seen}
-use Rattle.script_text.specs.TaskTables.{tasks_seen, tasks_after, count_in, IsWaitThere, IsTasksAfter}
+use Rattle.script_text.specs.TaskTables.{tasks_seen, table_after, count_in, IsWaitThere, IsTasksAfter}
 use Rattle.script_text.specs.Scripts.{calls_seen, item_found, IsDraft, HasFault, IsSpelled, IsAdded, IsItemRead, words_fault, limits_fault}
 use Rattle.script_text.proofs.TaskSteps.{tasks_more, waits_more}
 
@@ -28,27 +28,27 @@ table_more lines x =
     ∙ fold-append with_name predefined (flat_map labels_of lines) (labels_of x)
 
 -- the rows of one more call
-pub rows_more : (lines : List ScriptLine) (x : ScriptLine) → rows_in (lines ++ x ∷ []) ≡ rows_in lines + rows_of x
+pub rows_more : (lines : List ScriptLine) (x : ScriptLine) → rows_in (lines ++ x ∷ []) ≡ rows_in lines + line_rows x
 rows_more lines x =
-    let last : rows_in lines + (0 + rows_of x) ≡ rows_in lines + rows_of x = omega arith in
-    sum_by-append rows_of lines (x ∷ []) ∙ last
+    let last : rows_in lines + (0 + line_rows x) ≡ rows_in lines + line_rows x = omega arith in
+    sum_by-append line_rows lines (x ∷ []) ∙ last
 
 -- the limits behind what a draft keeps are those behind its calls
 pub limits_are : (d : Draft) (x : ScriptLine) → IsDraft d
-    → limits_fault (tasks_seen d.tasks) d.rows d.labels x ≡ first_of (limit_faults (calls_seen d ++ x ∷ []) x)
+    → limits_fault (tasks_seen d.tasks) d.rows d.labels x ≡ first_script_fault (limit_faults (calls_seen d ++ x ∷ []) x)
 limits_are d x draft =
     let above = calls_seen d in
     let names : (tasks_seen d.tasks).names ++ forked_name (change_of x) ≡ task_names (above ++ x ∷ []) =
     ap (λ (t : Tasks). t.names ++ forked_name (change_of x)) draft.tasks ∙ sym (ap (λ (t : Tasks). t.names) (tasks_more above x draft.waits)) in
-    let rows : d.rows + rows_of x ≡ rows_in (above ++ x ∷ []) = ap (λ (n : ℕ). n + rows_of x) draft.rows ∙ sym (rows_more above x) in
+    let rows : d.rows + line_rows x ≡ rows_in (above ++ x ∷ []) = ap (λ (n : ℕ). n + line_rows x) draft.rows ∙ sym (rows_more above x) in
     let labels : with_names d.labels (labels_of x) ≡ table_of (above ++ x ∷ []) =
     ap (λ (t : List (List ℕ)). with_names t (labels_of x)) draft.labels ∙ sym (table_more above x) in
-    λ i. first_of (tasks_fault (names i) ∷ text_fault x ∷ rows_fault (rows i) ∷ labels_fault (labels i) ∷ [])
+    λ i. first_script_fault (tasks_fault (names i) ∷ text_fault x ∷ rows_fault (rows i) ∷ labels_fault (labels i) ∷ [])
 
 -- a call that keeps the limits is added
 pub added : (old new : Draft) (x : ScriptLine) (call : Line) → IsDraft old → IsWaitThere (tasks_seen old.tasks) (change_of x)
-    → nat_lt most_tasks (length ((tasks_seen old.tasks).names ++ forked_name (change_of x))) ≡ false → length x.text.bytes ≤ most_text
-    → new.rows ≡ old.rows + rows_of x → new.rows ≤ most_rows
+    → nat_lt most_script_tasks (length ((tasks_seen old.tasks).names ++ forked_name (change_of x))) ≡ false → length x.text.bytes ≤ most_text
+    → new.rows ≡ old.rows + line_rows x → new.rows ≤ most_rows
     → new.labels ≡ with_names old.labels (labels_of x) → length new.labels ≤ most_labels
     → IsTasksAfter x.task (change_of x) old.tasks new.tasks → call_seen call ≡ x → new.lines.items ≡ old.lines.items ++ call ∷ []
     → IsAdded old new x
@@ -59,7 +59,7 @@ added old new x call draft there room short rows few_rows labels many after is l
     let there_above : IsWaitThere (tasks_of above) (change_of x) =
     subst (λ (t : Tasks). IsWaitThere t (change_of x)) draft.tasks there in
     let size : nat_lt most_text (length x.text.bytes) ≡ false = le-ltb most_text (length x.text.bytes) short in
-    let row_size : nat_lt most_rows (old.rows + rows_of x) ≡ false = rw (← rows) (le-ltb most_rows new.rows few_rows) in
+    let row_size : nat_lt most_rows (old.rows + line_rows x) ≡ false = rw (← rows) (le-ltb most_rows new.rows few_rows) in
     let few_labels : nat_lt most_labels (length (with_names old.labels (labels_of x))) ≡ false =
     rw (← labels) (le-ltb most_labels (length new.labels) many) in
     record {
@@ -67,8 +67,8 @@ added old new x call draft there room short rows few_rows labels many after is l
       calls = calls;
       draft = record {
         tasks =
-            after.says ∙ ap (λ (t : Tasks). tasks_after t x.task (change_of x)) draft.tasks ∙ sym (tasks_more above x draft.waits) ∙ ap tasks_of (sym calls);
-        rows = rows ∙ ap (λ (n : ℕ). n + rows_of x) draft.rows ∙ sym (rows_more above x) ∙ ap rows_in (sym calls);
+            after.says ∙ ap (λ (t : Tasks). table_after t x.task (change_of x)) draft.tasks ∙ sym (tasks_more above x draft.waits) ∙ ap tasks_of (sym calls);
+        rows = rows ∙ ap (λ (n : ℕ). n + line_rows x) draft.rows ∙ sym (rows_more above x) ∙ ap rows_in (sym calls);
         labels = labels ∙ ap (λ (t : List (List ℕ)). with_names t (labels_of x)) draft.labels ∙ sym (table_more above x) ∙ ap table_of (sym calls);
         waits = rw calls (waits_more above x draft.waits there_above);
         table = after.table;
@@ -89,9 +89,9 @@ item_limits d f c place draft within spelled =
     let same : spelled_seen c ≡ call_of above i = spelled.is ∙ ap (λ (t : Tasks). call_in t i) draft.tasks in
     let lines : nat_lt most_lines f.number ≡ false = le-ltb most_lines f.number within in
     let words : words_fault (tasks_of above) i ≡ None = sym (ap (λ (t : Tasks). words_fault t i) draft.tasks) ∙ spelled.good in
-    let item : item_fault above i ≡ first_of (limit_faults (above ++ call_of above i ∷ []) (call_of above i)) = rw (lines, words) refl in (
+    let item : item_fault above i ≡ first_script_fault (limit_faults (above ++ call_of above i ∷ []) (call_of above i)) = rw (lines, words) refl in (
       same,
-      limits_are d (spelled_seen c) draft ∙ ap (λ (x : ScriptLine). first_of (limit_faults (above ++ x ∷ []) x)) same ∙ sym item,
+      limits_are d (spelled_seen c) draft ∙ ap (λ (x : ScriptLine). first_script_fault (limit_faults (above ++ x ∷ []) x)) same ∙ sym item,
     )
 
 -- an item that is spelled and whose call is added is read

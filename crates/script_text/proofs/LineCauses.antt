@@ -9,7 +9,7 @@ use Rattle.script_spec.specs.declared.Cause.{Cause}
 use Rattle.script_spec.specs.declared.Cause.TheVariants as Cause
 use Rattle.script_spec.specs.declared.Verb.{Verb}
 use Rattle.script_spec.specs.Words.{verb_of, kinds_of, bad_word, has_deep_path, is_task_name, word_at}
-use Rattle.script_spec.specs.Tasks.{Tasks, is_live, pid_of}
+use Rattle.script_spec.specs.Tasks.{Tasks, is_live_name, pid_of}
 use Rattle.script_spec.specs.Causes.{cause_if, first_cause, names_unbuilt_file, is_name_good, is_wait_good, words_cause, behind_task, line_cause}
 use Rattle.script_text.specs.Spelled.{HasVerb}
 
@@ -48,14 +48,14 @@ pub record GoodWords (tasks : Tasks) (task : List ℕ) (name : Placed) (verb : V
   pub many : length ws ≡ length (kinds_of verb)
   pub kinds : bad_word (name ∷ []) (kinds_of verb) ws ≡ None
   pub there : text ≡ true
-  pub live : is_live tasks task ≡ true
+  pub live : is_live_name tasks task ≡ true
   pub wait : is_wait_good tasks (pid_of tasks task) verb ws ≡ true
 
 words_good : (tasks : Tasks) (task : List ℕ) (name : Placed) (verb : Verb) (ws : List Placed) (text : Bool)
     → words_cause tasks task name verb ws text ≡ None → GoodWords tasks task name verb ws text
 words_good tasks task name verb ws text e =
     let none = no_cause (names_unbuilt_file verb ws) (not (nat_eq (length ws) (length (kinds_of verb)))) (bad_word (name ∷ []) (kinds_of verb) ws)
-    (has_deep_path (kinds_of verb) ws) (not text) (not (is_live tasks task)) (not (is_name_good tasks verb ws))
+    (has_deep_path (kinds_of verb) ws) (not text) (not (is_live_name tasks task)) (not (is_name_good tasks verb ws))
     (not (is_wait_good tasks (pid_of tasks task) verb ws)) e in
     record {
       many = eqb-true (length ws) (length (kinds_of verb)) (not-false _ none.is_count);

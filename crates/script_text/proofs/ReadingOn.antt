@@ -5,12 +5,12 @@ use Rattle.text_spec.specs.Texts.{whole_line, whole_lines, is_space}
 use Rattle.text_spec.specs.Names.{predefined}
 use Rattle.rule_text.proofs.WholeLines.{whole_of_lines}
 use Rattle.rule_text.specs.declared.part.Part.{Part}
-use Rattle.rule_text.specs.Parts.{lines_of, words_of, end_of, first_line, as_line}
+use Rattle.rule_text.specs.Parts.{lines_of, part_words, end_of, first_text_line, as_line}
 use Rattle.script_spec.specs.declared.ScriptFault.{ScriptFault}
 use Rattle.script_spec.specs.declared.ScriptFault.TheVariants as ScriptFault
 use Rattle.script_spec.specs.Lines.{ScriptLine, rows_in, table_of}
 use Rattle.script_spec.specs.Tasks.{tasks_of}
-use Rattle.script_spec.specs.Grammar.{Item, item_of, items, is_skipped, text_count, item_fault, call_of, calls_of, script_of, lines_fault, unless_fault, most_lines}
+use Rattle.script_spec.specs.Grammar.{Item, item_of, items, is_skipped, text_count, item_fault, call_of, calls_of, script_of, lines_fault, unless_script_fault, most_lines}
 use Rattle.script_laws.proofs.Items.{items_pass}
 use Rattle.script_text.specs.declared.reading.Draft.{Draft}
 use Rattle.script_text.specs.declared.reading.Place.{Place}
@@ -32,41 +32,41 @@ pub record ReadsOn (d : Draft) (place : Place) (text : Part) : Type 0 where
   pub few : length d.lines.items ≤ most_lines
 
 -- the place behind the first line of a text
-behind_line : (text line after : Part) → lines_of text ≡ first_line text line ∷ lines_of after → line.at ≡ text.at → end_of after ≡ end_of text
-    → line.at + length (whole_line (first_line text line)) ≡ after.at
+behind_line : (text line after : Part) → lines_of text ≡ first_text_line text line ∷ lines_of after → line.at ≡ text.at → end_of after ≡ end_of text
+    → line.at + length (whole_line (first_text_line text line)) ≡ after.at
 behind_line text line after cut begins ends =
-    let whole : text.bytes.now ≡ whole_line (first_line text line) ++ after.bytes.now =
+    let whole : text.bytes.now ≡ whole_line (first_text_line text line) ++ after.bytes.now =
     sym (whole_of_lines text.at text.bytes.now) ∙ ap whole_lines cut
-    ∙ ap (λ (t : List ℕ). whole_line (first_line text line) ++ t) (whole_of_lines after.at after.bytes.now) in
-    omega (arith, ap (λ (t : List ℕ). length t) whole, length-append (whole_line (first_line text line)) after.bytes.now)
+    ∙ ap (λ (t : List ℕ). whole_line (first_text_line text line) ++ t) (whole_of_lines after.at after.bytes.now) in
+    omega (arith, ap (λ (t : List ℕ). length t) whole, length-append (whole_line (first_text_line text line)) after.bytes.now)
 
 -- the item of a line that was found
-item_is : (text : Part) (f : Found) → lines_of text ≡ first_line text f.line ∷ lines_of f.after → f.line.at ≡ text.at → end_of f.after ≡ end_of text
-    → item_of f.number (first_line text f.line) (lines_of f.after) ≡ item_found f
+item_is : (text : Part) (f : Found) → lines_of text ≡ first_text_line text f.line ∷ lines_of f.after → f.line.at ≡ text.at → end_of f.after ≡ end_of text
+    → item_of f.number (first_text_line text f.line) (lines_of f.after) ≡ item_found f
 item_is text f cut begins ends =
     λ i. record {
       line = f.number;
-      words = words_of is_space f.line;
+      words = part_words is_space f.line;
       behind = behind_line text f.line f.after cut begins ends i;
       after = lines_of f.after;
     }
 
 -- the items of a text that begins with this line
-items_cut : (text : Part) (f : Found) → lines_of text ≡ first_line text f.line ∷ lines_of f.after → f.line.at ≡ text.at → end_of f.after ≡ end_of text
+items_cut : (text : Part) (f : Found) → lines_of text ≡ first_text_line text f.line ∷ lines_of f.after → f.line.at ≡ text.at → end_of f.after ≡ end_of text
     → is_skipped (as_line f.line) ≡ false
     → items f.number 0 (lines_of text) ≡ item_found f ∷ items (f.number + 1) (text_count (item_found f).words) (lines_of f.after)
 items_cut text f cut begins ends called =
     rw (cut, called) (ap (λ (i : Item). i ∷ items (f.number + 1) (text_count (item_found f).words) (lines_of f.after)) (item_is text f cut begins ends))
 
 fails_as : (e : ScriptFault) (fault : Option ScriptFault) (more whole : Result (List ScriptLine) ScriptFault)
-    → HasFault fault e → unless_fault fault more ≡ whole → Fails e whole
+    → HasFault fault e → unless_script_fault fault more ≡ whole → Fails e whole
 fails_as ScriptFault.Memory fault more whole has is = tt
 fails_as (ScriptFault.Malformed line cause) fault more whole has is = sym is ∙ rw has refl
 fails_as (ScriptFault.TooLarge what) fault more whole has is = sym is ∙ rw has refl
 
 -- an item with a fault ends the reading
 pub item_fails : (d : Draft) (place : Place) (text line after : Part) (e : ScriptFault) → ReadsOn d place text
-    → lines_of place.rest ≡ first_line place.rest line ∷ lines_of after → line.at ≡ place.rest.at → end_of after ≡ end_of place.rest
+    → lines_of place.rest ≡ first_text_line place.rest line ∷ lines_of after → line.at ≡ place.rest.at → end_of after ≡ end_of place.rest
     → is_skipped (as_line line) ≡ false
     → HasFault (item_fault (calls_seen d) (item_found (record { number = place.line; line = line; after = after }))) e
     → Fails e (script_of (lines_of text))
@@ -81,7 +81,7 @@ few_more calls calls' line behind within more = omega (arith, behind, within, mo
 
 -- an item that is read
 pub item_read : (d d' : Draft) (place place' : Place) (text line after : Part) → ReadsOn d place text
-    → lines_of place.rest ≡ first_line place.rest line ∷ lines_of after → line.at ≡ place.rest.at → end_of after ≡ end_of place.rest
+    → lines_of place.rest ≡ first_text_line place.rest line ∷ lines_of after → line.at ≡ place.rest.at → end_of after ≡ end_of place.rest
     → length after.bytes.now < length place.rest.bytes.now → is_skipped (as_line line) ≡ false
     → IsItemRead d d' (record { number = place.line; line = line; after = after }) place' → ReadsOn d' place' text
 item_read d d' place place' text line after on cut begins ends falls called read =

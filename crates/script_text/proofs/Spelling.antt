@@ -6,16 +6,16 @@ use Rattle.std.proofs.lemmas.List.{drop-map, length-drop, length-map}
 use Rattle.text_spec.specs.Texts.{Placed, is_space, whole_lines}
 use Rattle.text_spec.specs.Names.{place_of}
 use Rattle.rule_text.specs.declared.part.Part.{Part}
-use Rattle.rule_text.specs.Parts.{placed, lines_of, words_of}
+use Rattle.rule_text.specs.Parts.{placed, lines_of, part_words}
 use Rattle.script_spec.specs.declared.Verb.{Verb}
 use Rattle.script_spec.specs.declared.Verb.TheVariants as Verb
 use Rattle.script_spec.specs.Words.{verb_of, kinds_of, word_at}
 use Rattle.script_spec.specs.Lines.{ScriptLine, verb_in, label_words}
-use Rattle.script_spec.specs.Tasks.{Tasks, pid_of, is_live, is_gone, is_there, is_pid, latest_child, change_of, change_by}
+use Rattle.script_spec.specs.Tasks.{Tasks, pid_of, is_live_name, is_gone, is_there, is_pid, latest_child, change_of, change_by}
 use Rattle.script_spec.specs.Causes.{is_wait_good}
 use Rattle.script_spec.specs.Grammar.{text_count}
-use Rattle.script_text.specs.Lines.{is_word}
-use Rattle.script_text.specs.Spelled.{spelled_seen, AreLabels, HasVerb, IsCall}
+use Rattle.script_text.specs.Lines.{has_bytes}
+use Rattle.script_text.specs.Spelled.{spelled_seen, AreLabels, HasVerb, IsSpelledCall}
 use Rattle.script_text.specs.TaskTables.{IsWaitThere}
 use Rattle.script_text.specs.Scripts.{IsTextOf, IsSpelled}
 use Rattle.script_text.proofs.LineCauses.{line_good}
@@ -59,12 +59,12 @@ wait_there tasks verb l ws task is name good shape =
     by (Verb.Call verb) good = tt
 
 -- a live task is there
-pub live_there : (tasks : Tasks) (name : List ℕ) → is_live tasks name ≡ true → pid_of tasks name < length tasks.names
+pub live_there : (tasks : Tasks) (name : List ℕ) → is_live_name tasks name ≡ true → pid_of tasks name < length tasks.names
 live_there tasks name live = ltb-true _ _ (and_left (is_there tasks name) _ (and_left _ (not (is_gone tasks (pid_of tasks name))) live))
 
-all_behind : (ws : List Placed) → list_all is_word ws ≡ true → list_all is_word (drop 1 ws) ≡ true
+all_behind : (ws : List Placed) → list_all has_bytes ws ≡ true → list_all has_bytes (drop 1 ws) ≡ true
 all_behind [] are = refl
-all_behind (w ∷ ws) are = and_right (is_word w) _ are
+all_behind (w ∷ ws) are = and_right (has_bytes w) _ are
 
 verb_behind : (ws : List Part) → word_at 0 (map placed (drop 1 ws)) ≡ word_at 1 (map placed ws)
 verb_behind [] = refl
@@ -80,30 +80,30 @@ second_word (w ∷ []) = refl
 second_word (w ∷ v ∷ ws) = refl
 
 -- the words of a call whose line has this verb
-call_is : (tasks : Tasks) (f : Found) (c : Spelled) (ws : List Part) → map placed ws ≡ words_of is_space f.line
-    → HasVerb tasks (map placed ws) true c.verb → c.words.now ≡ drop 1 ws → IsCall c
+call_is : (tasks : Tasks) (f : Found) (c : Spelled) (ws : List Part) → map placed ws ≡ part_words is_space f.line
+    → HasVerb tasks (map placed ws) true c.verb → c.words.now ≡ drop 1 ws → IsSpelledCall c
 call_is tasks f c ws words has cut =
     let good = line_good tasks (map placed ws) true c.verb has in
     let names : map placed c.words.now ≡ map placed (drop 1 ws) = ap (map placed) cut in
     let two : drop 1 (map placed c.words.now) ≡ drop 2 (map placed ws) = ap (drop 1) names ∙ drop_two ws in
-    let all : list_all is_word (map placed ws) ≡ true = ap (list_all is_word) words ∙ words_there is_space f.line.at f.line.bytes.now in
+    let all : list_all has_bytes (map placed ws) ≡ true = ap (list_all has_bytes) words ∙ words_there is_space f.line.at f.line.bytes.now in
     let long : length c.words.now ≡ length ws - 1 = ap length cut ∙ length-drop 1 ws in
     record {
       verb = ap (λ (w : List Placed). verb_of (word_at 0 w).bytes) names ∙ ap (λ (p : Placed). verb_of p.bytes) (verb_behind ws) ∙ has.is;
       many = omega (arith, long, length-map ws placed, good.0, good.1.many, length-drop 2 (map placed ws));
-      words = ap (list_all is_word) (names ∙ sym (drop-map placed 1 ws)) ∙ all_behind (map placed ws) all;
+      words = ap (list_all has_bytes) (names ∙ sym (drop-map placed 1 ws)) ∙ all_behind (map placed ws) all;
       labels = subst (λ (w : List Placed). AreLabels (label_words (kinds_of c.verb) w)) (sym two) (label_words_good (word_at 1 (map placed ws) ∷ []) (kinds_of c.verb) (drop 2 (map placed ws)) good.1.kinds);
     }
 
 -- a line whose words and text are those of a call
 pub spelled : (tasks : Tasks) (f : Found) (c : Spelled) (place : Place) (ws : List Part) (first : Part) (count : ℕ)
-    → map placed ws ≡ words_of is_space f.line → HasVerb tasks (map placed ws) true c.verb → length tasks.parents + 1 ≡ length tasks.names
+    → map placed ws ≡ part_words is_space f.line → HasVerb tasks (map placed ws) true c.verb → length tasks.parents + 1 ≡ length tasks.names
     → c.words.now ≡ drop 1 ws → c.line ≡ f.number → placed first ≡ word_at 0 (map placed ws) → c.task ≡ pid_of tasks first.bytes.now
     → c.seq ≡ tasks.calls c.task + 1 → count ≡ text_count (map placed ws) → nat_le count (length (lines_of f.after)) ≡ true
     → IsTextOf count f.after c.text place.rest → place.line ≡ f.number + 1 + count → IsSpelled tasks f c place
 spelled tasks f c place ws first count words has shape cut line name task seq counted text_good is_text next =
     let good = line_good tasks (map placed ws) true c.verb has in
-    let W = words_of is_space f.line in
+    let W = part_words is_space f.line in
     let counted_here : count ≡ text_count W = counted ∙ ap text_count words in
     let e_task : c.task ≡ pid_of tasks (word_at 0 W).bytes =
     task ∙ ap (λ (p : Placed). pid_of tasks p.bytes) (name ∙ ap (word_at 0) words) in

@@ -7,7 +7,7 @@ use Rattle.std.proofs.lemmas.List.Sums.{prefix_len-le-length}
 use Rattle.std.proofs.lemmas.Bool.{eq-eqb}
 use Rattle.rule_text.specs.declared.part.Part.{Part}
 use Rattle.script_spec.specs.Tasks.{lineage, latest_child}
-use Rattle.script_text.specs.TaskTables.{names_in}
+use Rattle.script_text.specs.TaskTables.{part_names}
 
 -- the first place in a list that is mapped
 place_in_map : {X Y : Type 0} (f : X → Y) (p : Y → Bool) (xs : List X) → position_or_len p (map f xs) ≡ position_or_len (λ x. p (f x)) xs
@@ -24,13 +24,13 @@ where_none false q is = refl
 
 -- where a name is found
 pub place_found : (names : List Part) (name : List ℕ) (at : ℕ) → Some at ≡ position (λ p. bytes_eq p.bytes.now name) names
-    → at ≡ position_or_len (λ t. bytes_eq t name) (names_in names)
+    → at ≡ position_or_len (λ t. bytes_eq t name) (part_names names)
 place_found names name at is =
     where_some _ _ at is ∙ sym (place_in_map (λ (p : Part). p.bytes.now) (λ (t : List ℕ). bytes_eq t name) names)
 
 -- where no name is found
 pub place_past : (names : List Part) (name : List ℕ) → None ≡ position (λ p. bytes_eq p.bytes.now name) names
-    → length names ≡ position_or_len (λ t. bytes_eq t name) (names_in names)
+    → length names ≡ position_or_len (λ t. bytes_eq t name) (part_names names)
 place_past names name is =
     let past = where_none _ _ is in
     let within = prefix_len-le-length (λ (p : Part). not (bytes_eq p.bytes.now name)) names in

@@ -11,10 +11,10 @@ use Rattle.std.proofs.lemmas.Grind.{flat_map-append, get_or-set_at}
 use Rattle.text_spec.specs.Names.{place_of}
 use Rattle.script_spec.specs.Lines.{ScriptLine}
 use Rattle.script_spec.specs.Tasks.{Tasks, TaskChange, Forks, Exits, Awaits, Keeps, change_of, forked_name, task_names, tasks_of, is_exit, is_fork, is_wait_for, parents_in}
-use Rattle.script_spec.specs.Grammar.{most_tasks}
+use Rattle.script_spec.specs.Grammar.{most_script_tasks}
 use Rattle.rule_text.specs.declared.part.Part.{Part}
 use Rattle.script_text.specs.declared.tasks.TaskTable.{TaskTable}
-use Rattle.script_text.specs.TaskTables.{tasks_seen, tasks_after, flag_in, count_in, names_in, IsWaitThere, IsTable, IsFirst, IsForked, IsFlagged, IsAwaited, IsCounted, IsTasksAfter}
+use Rattle.script_text.specs.TaskTables.{tasks_seen, table_after, flag_in, count_in, part_names, IsWaitThere, IsTable, IsFirst, IsTaskForked, IsFlagged, IsTaskAwaited, IsCounted, IsTasksAfter}
 
 -- equal answers say the same of tasks
 says : (a b : Tasks) → a.names ≡ b.names → a.parents ≡ b.parents → ((t : ℕ) → a.exited t ≡ b.exited t)
@@ -37,7 +37,7 @@ place_kept (n ∷ ns) more name there =
     place_step (bytes_eq n name) (place_of (ns ++ more) name) (place_of ns name) (length ns) (place_kept ns more name) there
 
 -- a task that is there stays there
-wait_kept : (tasks : Tasks) (task : ℕ) (c change : TaskChange) → IsWaitThere tasks c → IsWaitThere (tasks_after tasks task change) c
+wait_kept : (tasks : Tasks) (task : ℕ) (c change : TaskChange) → IsWaitThere tasks c → IsWaitThere (table_after tasks task change) c
 wait_kept tasks task (Forks name) change there = tt
 wait_kept tasks task Exits change there = tt
 wait_kept tasks task (Awaits name) change there =
@@ -46,7 +46,7 @@ wait_kept tasks task (Awaits name) change there =
 wait_kept tasks task Keeps change there = tt
 
 waits_kept : (tasks : Tasks) (task : ℕ) (change : TaskChange) (ls : List ScriptLine) → AllByRecursion (λ l. IsWaitThere tasks (change_of l)) ls
-    → AllByRecursion (λ l. IsWaitThere (tasks_after tasks task change) (change_of l)) ls
+    → AllByRecursion (λ l. IsWaitThere (table_after tasks task change) (change_of l)) ls
 waits_kept tasks task change [] are = tt
 waits_kept tasks task change (l ∷ ls) are = (wait_kept tasks task (change_of l) change are.0, waits_kept tasks task change ls are.1)
 
@@ -82,7 +82,7 @@ parent_more false l ps = refl
 
 -- what calls say of tasks, behind one more
 pub tasks_more : (above : List ScriptLine) (l : ScriptLine) → AllByRecursion (λ k. IsWaitThere (tasks_of above) (change_of k)) above
-    → tasks_of (above ++ l ∷ []) ≡ tasks_after (tasks_of above) l.task (change_of l)
+    → tasks_of (above ++ l ∷ []) ≡ table_after (tasks_of above) l.task (change_of l)
 tasks_more above l waits =
     let forks : ScriptLine → List (List ℕ) = λ k. forked_name (change_of k) in
     let fork : ScriptLine → Bool = λ k. is_fork (change_of k) in
@@ -90,7 +90,7 @@ tasks_more above l waits =
     let names : task_names (above ++ l ∷ []) ≡ task_names above ++ forked_name (change_of l) =
     ap (λ (ns : List (List ℕ)). codes "init" ∷ ns)
     (flat_map-append forks above (l ∷ []) ∙ ap (λ (ns : List (List ℕ)). flat_map forks above ++ ns) (append-nil (forks l))) in
-    says (tasks_of (above ++ l ∷ [])) (tasks_after (tasks_of above) l.task (change_of l)) names
+    says (tasks_of (above ++ l ∷ [])) (table_after (tasks_of above) l.task (change_of l)) names
     (ap (λ (ls : List ScriptLine). reverse (map task ls)) (filter-append fork above (l ∷ []))
     ∙ ap (λ (ps : List ℕ). reverse ps) (map-append task (filter fork above) (filter fork (l ∷ [])))
     ∙ reverse-append (map task (filter fork above)) (map task (filter fork (l ∷ []))) ∙ parent_more (fork l) l (parents_in above))
@@ -108,7 +108,7 @@ tasks_more above l waits =
 pub waits_more : (above : List ScriptLine) (l : ScriptLine) → AllByRecursion (λ k. IsWaitThere (tasks_of above) (change_of k)) above
     → IsWaitThere (tasks_of above) (change_of l) → AllByRecursion (λ k. IsWaitThere (tasks_of (above ++ l ∷ [])) (change_of k)) (above ++ l ∷ [])
 waits_more above l waits there =
-    let after = tasks_after (tasks_of above) l.task (change_of l) in
+    let after = table_after (tasks_of above) l.task (change_of l) in
     let all : AllByRecursion (λ k. IsWaitThere after (change_of k)) (above ++ l ∷ []) =
     all_more (λ (k : ScriptLine). IsWaitThere after (change_of k)) above l (waits_kept (tasks_of above) l.task (change_of l) above waits)
     (wait_kept (tasks_of above) l.task (change_of l) (change_of l) there) in
@@ -169,8 +169,8 @@ pub nothing_after : (task : ℕ) (old mid : TaskTable) → IsTable old → task 
     → IsTasksAfter task Keeps old mid
 nothing_after task old mid table there counted = record {
   says =
-      says (tasks_seen mid) (tasks_after (tasks_seen old) task Keeps)
-      (rw counted.names (sym (append-nil (names_in old.names.items))))
+      says (tasks_seen mid) (table_after (tasks_seen old) task Keeps)
+      (rw counted.names (sym (append-nil (part_names old.names.items))))
       (ap reverse counted.parents)
       (λ t. rw counted.exited (sym (or_false (flag_in old.exited.items t))))
       (λ t. rw counted.awaited (sym (or_false (flag_in old.awaited.items t))))
@@ -187,8 +187,8 @@ exit_after task old mid new table there counted flagged =
     flagged.exited ∙ ap (λ (xs : List Bool). set xs task true) counted.exited in
     record {
       says =
-          says (tasks_seen new) (tasks_after (tasks_seen old) task Exits)
-          (ap names_in (flagged.names ∙ counted.names) ∙ sym (append-nil (names_in old.names.items)))
+          says (tasks_seen new) (table_after (tasks_seen old) task Exits)
+          (ap part_names (flagged.names ∙ counted.names) ∙ sym (append-nil (part_names old.names.items)))
           (ap reverse (flagged.parents ∙ counted.parents))
           (λ t. ap (λ (xs : List Bool). flag_in xs t) flags ∙ flag_set old.exited.items task t (omega (arith, table.exited, there)))
           (λ t. ap (λ (xs : List Bool). flag_in xs t) (flagged.awaited ∙ counted.awaited) ∙ sym (or_false (flag_in old.awaited.items t)))
@@ -204,20 +204,20 @@ exit_after task old mid new table there counted flagged =
 
 -- a wait for a task
 pub wait_after : (task child : ℕ) (name : List ℕ) (old mid new : TaskTable) → IsTable old → task < length old.names.items
-    → IsCounted task old mid → child ≡ place_of (names_in mid.names.items) name → place_of (names_in old.names.items) name < length (names_in old.names.items)
-    → IsAwaited child mid new → IsTasksAfter task (Awaits name) old new
+    → IsCounted task old mid → child ≡ place_of (part_names mid.names.items) name → place_of (part_names old.names.items) name < length (part_names old.names.items)
+    → IsTaskAwaited child mid new → IsTasksAfter task (Awaits name) old new
 wait_after task child name old mid new table there counted is child_there awaited =
     let kept = counted_table task old mid table counted in
-    let same : child ≡ place_of (names_in old.names.items) name =
-    is ∙ ap (λ (ns : List Part). place_of (names_in ns) name) counted.names in
+    let same : child ≡ place_of (part_names old.names.items) name =
+    is ∙ ap (λ (ns : List Part). place_of (part_names ns) name) counted.names in
     let within : child < length old.awaited.items =
     omega (arith, same, child_there, length-map old.names.items (λ (p : Part). p.bytes.now), table.awaited) in
     let flags : new.awaited.items ≡ set old.awaited.items child true =
     awaited.awaited ∙ ap (λ (xs : List Bool). set xs child true) counted.awaited in
     record {
       says =
-          says (tasks_seen new) (tasks_after (tasks_seen old) task (Awaits name))
-          (ap names_in (awaited.names ∙ counted.names) ∙ sym (append-nil (names_in old.names.items)))
+          says (tasks_seen new) (table_after (tasks_seen old) task (Awaits name))
+          (ap part_names (awaited.names ∙ counted.names) ∙ sym (append-nil (part_names old.names.items)))
           (ap reverse (awaited.parents ∙ counted.parents))
           (λ t. ap (λ (xs : List Bool). flag_in xs t) (awaited.exited ∙ counted.exited) ∙ sym (or_false (flag_in old.exited.items t)))
           (λ t. ap (λ (xs : List Bool). flag_in xs t) flags ∙ flag_set old.awaited.items child t within
@@ -234,23 +234,23 @@ wait_after task child name old mid new table there counted is child_there awaite
 
 -- a new task
 pub fork_after : (task : ℕ) (name : List ℕ) (old mid new : TaskTable) → IsTable old → task < length old.names.items
-    → length (names_in old.names.items) + 1 ≤ most_tasks → IsCounted task old mid → IsForked task name mid new → IsTasksAfter task (Forks name) old new
+    → length (part_names old.names.items) + 1 ≤ most_script_tasks → IsCounted task old mid → IsTaskForked task name mid new → IsTasksAfter task (Forks name) old new
 fork_after task name old mid new table there room counted forked =
     let kept = counted_table task old mid table counted in
-    let names : names_in new.names.items ≡ names_in old.names.items ++ name ∷ [] =
-    forked.names ∙ ap (λ (ns : List Part). names_in ns ++ name ∷ []) counted.names in
+    let names : part_names new.names.items ≡ part_names old.names.items ++ name ∷ [] =
+    forked.names ∙ ap (λ (ns : List Part). part_names ns ++ name ∷ []) counted.names in
     let long : length new.names.items ≡ length old.names.items + 1 =
     omega (
       arith,
       ap (λ (ns : List (List ℕ)). length ns) names,
       length-map new.names.items (λ (p : Part). p.bytes.now),
       length-map old.names.items (λ (p : Part). p.bytes.now),
-      length-append (names_in old.names.items) (name ∷ []),
+      length-append (part_names old.names.items) (name ∷ []),
     ) in
     let same : length mid.names.items ≡ length old.names.items = ap (λ (ns : List Part). length ns) counted.names in
     record {
       says =
-          says (tasks_seen new) (tasks_after (tasks_seen old) task (Forks name)) names
+          says (tasks_seen new) (table_after (tasks_seen old) task (Forks name)) names
           (ap reverse forked.parents ∙ reverse-append mid.parents.items (task ∷ []) ∙ ap (λ (ps : List ℕ). task ∷ reverse ps) counted.parents)
           (λ t. ap (λ (xs : List Bool). flag_in xs t) forked.exited ∙ flag_more mid.exited.items t
           ∙ ap (λ (xs : List Bool). flag_in xs t) counted.exited ∙ sym (or_false (flag_in old.exited.items t)))

@@ -3,9 +3,9 @@ use Rattle.std.proofs.lemmas.Bool.{cases_Bool}
 use Rattle.std.proofs.lemmas.List.{drop_more}
 use Rattle.std.proofs.lemmas.Grind.{fold-append}
 use Rattle.text_spec.specs.Names.{with_name, with_names, has_name}
-use Rattle.file_spec.specs.Writes.{names_of}
+use Rattle.file_spec.specs.Writes.{labels_named}
 use Rattle.smackfs.specs.declared.named_op.NamedOp.{NamedOp}
-use Rattle.smackfs.specs.Named.{named}
+use Rattle.smackfs.specs.Named.{named_write}
 use Rattle.script_text.specs.WrittenTexts.{names_of_ops}
 
 -- a table with one more name is no shorter
@@ -26,17 +26,17 @@ AddsOps table ops i first = with_names table (names_of_ops (drop i ops)) ≡ wit
 
 -- one more write
 pub ops_more : (table table' first : List (List ℕ)) (ops : List NamedOp) (i : ℕ) (op : NamedOp) → i < length ops → AddsOps table ops i first
-    → table' ≡ with_names table (names_of (named (get_or ops i op))) → AddsOps table' ops (i + 1) first
+    → table' ≡ with_names table (labels_named (named_write (get_or ops i op))) → AddsOps table' ops (i + 1) first
 ops_more table table' first ops i op within adds put =
-    let cut : names_of_ops (drop i ops) ≡ names_of (named (get_or ops i op)) ++ names_of_ops (drop (i + 1) ops) = ap names_of_ops (drop_more ops i op within) in
+    let cut : names_of_ops (drop i ops) ≡ labels_named (named_write (get_or ops i op)) ++ names_of_ops (drop (i + 1) ops) = ap names_of_ops (drop_more ops i op within) in
     ap (λ (t : List (List ℕ)). with_names t (names_of_ops (drop (i + 1) ops))) put
-    ∙ sym (fold-append with_name table (names_of (named (get_or ops i op))) (names_of_ops (drop (i + 1) ops)))
+    ∙ sym (fold-append with_name table (labels_named (named_write (get_or ops i op))) (names_of_ops (drop (i + 1) ops)))
     ∙ ap (with_names table) (sym cut) ∙ adds
 
 -- the names of a write that are too many make all too many
 pub ops_many : (table first : List (List ℕ)) (ops : List NamedOp) (i : ℕ) (op : NamedOp) (most : ℕ) → i < length ops → AddsOps table ops i first
-    → most < length (with_names table (names_of (named (get_or ops i op)))) → most < length (with_names first (names_of_ops ops))
+    → most < length (with_names table (labels_named (named_write (get_or ops i op)))) → most < length (with_names first (names_of_ops ops))
 ops_many table first ops i op most within adds many =
     let next = ops_more table _ first ops i op within adds refl in
     rw (← next)
-    (omega (arith, many, with_names-longer (with_names table (names_of (named (get_or ops i op)))) (names_of_ops (drop (i + 1) ops))))
+    (omega (arith, many, with_names-longer (with_names table (labels_named (named_write (get_or ops i op)))) (names_of_ops (drop (i + 1) ops))))

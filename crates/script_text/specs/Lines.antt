@@ -10,8 +10,8 @@ has_byte [] = false
 has_byte (b ∷ bs) = true
 
 -- a word has a byte; one that is absent has none
-abbrev pub is_word : Placed → Bool
-is_word p = has_byte p.bytes
+abbrev pub has_bytes : Placed → Bool
+has_bytes p = has_byte p.bytes
 
 -- a call, its words and its text as runs of bytes at their places
 abbrev pub call_seen : Line → ScriptLine
@@ -19,6 +19,6 @@ call_seen l = record {
   task = l.task;
   seq = l.seq;
   line = l.line;
-  words = placed l.verb ∷ filter is_word (placed l.one ∷ placed l.two ∷ placed l.three ∷ []);
+  words = placed l.verb ∷ filter has_bytes (placed l.one ∷ placed l.two ∷ placed l.three ∷ []);
   text = placed l.text;
 }

@@ -4,20 +4,20 @@ use Rattle.std.specs.Option.{option_map}
 use Rattle.text_spec.specs.Texts.{TextLine, whole_lines, is_space}
 use Rattle.text_spec.specs.Names.{with_names}
 use Rattle.rule_text.specs.declared.part.Part.{Part}
-use Rattle.rule_text.specs.Parts.{lines_of, words_of, end_of, Fits}
+use Rattle.rule_text.specs.Parts.{lines_of, part_words, end_of, FitsPlaces}
 use Rattle.script_spec.specs.declared.ScriptFault.{ScriptFault}
 use Rattle.script_spec.specs.declared.ScriptFault.TheVariants as ScriptFault
-use Rattle.script_spec.specs.Lines.{ScriptLine, rows_of, rows_in, labels_of, table_of}
+use Rattle.script_spec.specs.Lines.{ScriptLine, line_rows, rows_in, labels_of, table_of}
 use Rattle.script_spec.specs.Tasks.{Tasks, tasks_of, change_of, forked_name}
 use Rattle.script_spec.specs.Causes.{line_cause}
-use Rattle.script_spec.specs.Grammar.{Item, text_count, call_in, call_of, item_fault, script_of, parse, has_text, first_of, tasks_fault, text_fault, rows_fault, labels_fault, most_bytes, most_lines, most_rows, most_labels}
+use Rattle.script_spec.specs.Grammar.{Item, text_count, call_in, call_of, item_fault, script_of, parse, has_text, first_script_fault, tasks_fault, text_fault, rows_fault, labels_fault, most_bytes, most_lines, most_rows, most_labels}
 use Rattle.script_text.specs.declared.reading.Draft.{Draft}
 use Rattle.script_text.specs.declared.reading.Place.{Place}
 use Rattle.script_text.specs.declared.reading.Found.{Found}
 use Rattle.script_text.specs.declared.spelled.Spelled.{Spelled}
 use Rattle.script_text.specs.declared.tasks.TaskTable.{TaskTable}
 use Rattle.script_text.specs.Lines.{call_seen}
-use Rattle.script_text.specs.Spelled.{spelled_seen, IsCall}
+use Rattle.script_text.specs.Spelled.{spelled_seen, IsSpelledCall}
 use Rattle.script_text.specs.TaskTables.{tasks_seen, count_in, IsWaitThere, IsTable}
 
 -- why a reading ended; want of memory is free
@@ -77,7 +77,7 @@ pub record IsTextOf (count : ℕ) (after text rest : Part) : Type 0 where
 abbrev pub item_found : Found → Item
 item_found f = record {
   line = f.number;
-  words = words_of is_space f.line;
+  words = part_words is_space f.line;
   behind = f.after.at;
   after = lines_of f.after;
 }
@@ -89,13 +89,13 @@ words_fault tasks i = option_map (λ cause. ScriptFault.Malformed i.line cause) 
 -- what is wrong with a call by the limits, behind what is kept of the calls above it
 abbrev pub limits_fault : Tasks → ℕ → List (List ℕ) → ScriptLine → Option ScriptFault
 limits_fault tasks rows labels l =
-    first_of
-    (tasks_fault (tasks.names ++ forked_name (change_of l)) ∷ text_fault l ∷ rows_fault (rows + rows_of l)
+    first_script_fault
+    (tasks_fault (tasks.names ++ forked_name (change_of l)) ∷ text_fault l ∷ rows_fault (rows + line_rows l)
     ∷ labels_fault (with_names labels (labels_of l)) ∷ [])
 
 -- a line that was found lies in an input of a script's size
 pub record IsWithin (f : Found) : Type 0 where
-  pub line : Fits f.line
+  pub line : FitsPlaces f.line
   pub after : end_of f.after ≤ most_bytes
   pub count : f.number + length f.after.bytes.now ≤ most_bytes
 
@@ -111,7 +111,7 @@ pub record IsBehind (f : Found) (place : Place) : Type 0 where
 pub record IsSpelled (tasks : Tasks) (f : Found) (c : Spelled) (place : Place) : Type 0 where
   pub good : words_fault tasks (item_found f) ≡ None
   pub is : spelled_seen c ≡ call_in tasks (item_found f)
-  pub call : IsCall c
+  pub call : IsSpelledCall c
   pub task : c.task < length tasks.names
   pub wait : IsWaitThere tasks (change_of (spelled_seen c))
   pub behind : IsBehind f place
@@ -133,7 +133,7 @@ pub record IsItemRead (old new : Draft) (f : Found) (place : Place) : Type 0 whe
   pub behind : IsBehind f place
 
 -- a draft has all the calls of some lines, and what they say
-pub record IsWhole (d : Draft) (lines : List TextLine) : Type 0 where
+pub record IsWholeDraft (d : Draft) (lines : List TextLine) : Type 0 where
   pub calls : script_of lines ≡ Ok (calls_seen d)
   pub draft : IsDraft d
   pub few : length d.lines.items ≤ most_lines

@@ -9,7 +9,7 @@ use Rattle.script_spec.specs.Lines.{ScriptLine, verb_in, label_words}
 use Rattle.script_spec.specs.Tasks.{Tasks}
 use Rattle.script_spec.specs.Causes.{line_cause}
 use Rattle.script_text.specs.declared.spelled.Spelled.{Spelled}
-use Rattle.script_text.specs.Lines.{is_word}
+use Rattle.script_text.specs.Lines.{has_bytes}
 
 -- all of these names are labels
 abbrev pub AreLabels : List (List ℕ) → Type 0
@@ -26,10 +26,10 @@ spelled_seen c = record {
 }
 
 -- the words of a call are those of its verb, and each is there; those that stand for labels are labels
-pub record IsCall (c : Spelled) : Type 0 where
+pub record IsSpelledCall (c : Spelled) : Type 0 where
   pub verb : verb_in (spelled_seen c) ≡ Some c.verb
   pub many : length c.words.now ≡ length (kinds_of c.verb) + 1
-  pub words : list_all is_word (map placed c.words.now) ≡ true
+  pub words : list_all has_bytes (map placed c.words.now) ≡ true
   pub labels : AreLabels (label_words (kinds_of c.verb) (drop 1 (map placed c.words.now)))
 
 -- nothing is wrong with a line of these words, and this is its verb

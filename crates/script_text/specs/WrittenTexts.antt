@@ -2,11 +2,11 @@ use Rattle.std.specs.Prelude.{◌≡◌, ◌+◌, ℕ, Bool, true, false, if◌t
 use Rattle.std.specs.List.{flat_map}
 use Rattle.file_spec.specs.declared.SmackFile.{SmackFile}
 use Rattle.file_spec.specs.declared.SmackFile.TheVariants as SmackFile
-use Rattle.file_spec.specs.Writes.{names_of, names_of_text, rows_of_text}
+use Rattle.file_spec.specs.Writes.{labels_named, names_of_text, rows_of_text}
 use Rattle.smackfs.specs.declared.named_op.NamedOp.{NamedOp}
-use Rattle.smackfs.specs.Named.{named, HasGoodNames}
+use Rattle.smackfs.specs.Named.{named_write, HasGoodNames}
 use Rattle.script_spec.specs.declared.Verb.{Verb}
-use Rattle.script_spec.specs.Lines.{ScriptLine, text_labels, rows_of}
+use Rattle.script_spec.specs.Lines.{ScriptLine, text_labels, line_rows}
 use Rattle.script_text.specs.declared.texts.WrittenText.{WrittenText}
 
 -- the text of a file of rules becomes a batch
@@ -20,10 +20,10 @@ text_rows t = if t.is_batch then length t.ops + 1 else 0
 
 -- the labels that writes name
 abbrev pub names_of_ops : List NamedOp → List (List ℕ)
-names_of_ops ops = flat_map names_of (map named ops)
+names_of_ops ops = flat_map labels_named (map named_write ops)
 
 abbrev pub AreGoodOps : List NamedOp → Type 0
-AreGoodOps ops = All (λ op. HasGoodNames (named op)) ops
+AreGoodOps ops = All (λ op. HasGoodNames (named_write op)) ops
 
 -- what a text spells for a file
 pub record IsText (file : Option SmackFile) (text : List ℕ) (t : WrittenText) : Type 0 where
@@ -33,6 +33,6 @@ pub record IsText (file : Option SmackFile) (text : List ℕ) (t : WrittenText) 
 
 -- what the text of a call spells
 pub record IsTextOfCall (verb : Verb) (l : ScriptLine) (t : WrittenText) : Type 0 where
-  pub rows : text_rows t ≡ rows_of l
+  pub rows : text_rows t ≡ line_rows l
   pub names : names_of_ops t.ops ≡ text_labels verb l
   pub good : AreGoodOps t.ops

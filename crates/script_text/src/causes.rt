@@ -1,5 +1,5 @@
 ghost use Rattle.std.specs.Prelude.{◌≡◌, ◌<◌, ◌≤◌, length, map, drop, Some, All, MatchResult};
-ghost use Rattle.rule_text.specs.Parts.{Fits, placed};
+ghost use Rattle.rule_text.specs.Parts.{FitsPlaces, placed};
 ghost use Rattle.script_spec.specs.Words.{word_at};
 ghost use Rattle.script_spec.specs.Causes.{names_unbuilt_file as name_unbuilt_file, is_task_name_good as is_task_name_good_of, is_name_good as is_name_good_of, is_wait_good as is_wait_good_of, unless_verb as unless_verb_of, words_cause as words_cause_of, line_cause};
 ghost use Rattle.script_text.specs.TaskTables.{tasks_seen};
@@ -64,7 +64,7 @@ fn words_cause(
     text: bool,
 ) -> Option<Cause>
     requires some { 0 < length words.now }
-    requires fit { All Fits words.now }
+    requires fit { All FitsPlaces words.now }
     ensures { result ≡ words_cause_of (tasks_seen tasks.now) task.now (word_at 0 (map placed words.now)) verb (drop 1 (map placed words.now)) text }
 {
     let kinds = kinds_of(verb);
@@ -108,7 +108,7 @@ fn unless_verb(name: &[u8]) -> Cause
 
 /// The verb of a line of these words, whose text is all there or not; or what is wrong with it.
 pub fn line_verb(tasks: &TaskTable<'_>, words: &[Part<'_>], text: bool) -> Result<Verb, Cause>
-    requires { All Fits words.now }
+    requires { All FitsPlaces words.now }
     ensures { MatchResult result (λ verb. HasVerb (tasks_seen tasks.now) (map placed words.now) text verb) (λ cause. line_cause (tasks_seen tasks.now) (map placed words.now) text ≡ Some cause) }
 {
     let task = word(words, 0).bytes;

@@ -2,11 +2,11 @@ ghost use Rattle.std.specs.Prelude.{◌≡◌, ◌<◌, ◌≤◌, ◌∷◌, []
 ghost use Rattle.smack_base.specs.Labels.{is_label};
 ghost use Rattle.text_spec.specs.Names.{with_name, with_names};
 ghost use Rattle.rule_text.specs.Parts.{placed};
-ghost use Rattle.file_spec.specs.Writes.{names_of};
+ghost use Rattle.file_spec.specs.Writes.{labels_named};
 ghost use Rattle.script_spec.specs.Lines.{labels_of, label_words, stands_for_label as is_kind_of_label};
 ghost use Rattle.script_spec.specs.Grammar.{most_labels};
-ghost use Rattle.smackfs.specs.Named.{named, HasGoodNames};
-ghost use Rattle.script_text.specs.Spelled.{spelled_seen, AreLabels, IsCall};
+ghost use Rattle.smackfs.specs.Named.{named_write, HasGoodNames};
+ghost use Rattle.script_text.specs.Spelled.{spelled_seen, AreLabels, IsSpelledCall};
 ghost use Rattle.script_text.specs.WrittenTexts.{names_of_ops, AreGoodOps, IsTextOfCall};
 
 use crate::spelled::Spelled;
@@ -57,11 +57,11 @@ fn add_both(labels: &mut Labels, one: &[u8], two: &[u8]) -> Result<(), LabelsFau
 
 /// Adds the labels that a write names.
 fn add_names(labels: &mut Labels, op: NamedOp<'_>) -> Result<(), LabelsFault>
-    requires good { HasGoodNames (named op) }
+    requires good { HasGoodNames (named_write op) }
     requires limit { length labels.old ≤ most_labels }
-    ensures ok { OnOk result (labels.new ≡ with_names labels.old (names_of (named op.entry))) }
+    ensures ok { OnOk result (labels.new ≡ with_names labels.old (labels_named (named_write op.entry))) }
     ensures limit { OnOk result (length labels.new ≤ most_labels) }
-    ensures many { result ≡ Err LabelsFault.TooMany → most_labels < length (with_names labels.old (names_of (named op.entry))) }
+    ensures many { result ≡ Err LabelsFault.TooMany → most_labels < length (with_names labels.old (labels_named (named_write op.entry))) }
 {
     match op {
         NamedOp::Set { s, o, m: _ } => add_both(labels, s.bytes, o.bytes),
@@ -142,7 +142,7 @@ pub fn add_labels(
     call: &Spelled<'_, '_>,
     text: &WrittenText<'_>,
 ) -> Result<(), LabelsFault>
-    requires call { IsCall call.now }
+    requires call { IsSpelledCall call.now }
     requires text { IsTextOfCall call.now.verb (spelled_seen call.now) text.now }
     requires limit { length labels.old ≤ most_labels }
     ensures ok { OnOk result (labels.new ≡ with_names labels.old (labels_of (spelled_seen call.now))) }

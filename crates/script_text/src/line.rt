@@ -1,7 +1,7 @@
 use rule_text::Part;
 
 /// A call of a script: a line that is neither skipped nor the text of another.
-#[derive(Clone, Copy, Debug)]
+#[derive(Clone, Copy)]
 pub struct Line<'a> {
     /// The pid of the task; 0 is the first task.
     pub task: u16,

@@ -1,11 +1,11 @@
 ghost use Rattle.std.specs.Prelude.{◌≡◌, ◌≤◌, ◌<◌, length, map, nat_le, MatchOption, IfSome, OnOk, IfOk, IfErr, All, true, false};
 ghost use Rattle.text_spec.specs.Texts.{is_space};
-ghost use Rattle.rule_text.specs.Parts.{Fits, placed, lines_of, words_of, end_of, as_line};
+ghost use Rattle.rule_text.specs.Parts.{FitsPlaces, placed, lines_of, part_words, end_of, as_line};
 ghost use Rattle.script_spec.specs.Tasks.{change_of};
 ghost use Rattle.script_spec.specs.Grammar.{item_fault, script_of, is_skipped as is_skipped_line, most_bytes};
-ghost use Rattle.script_text.specs.Spelled.{spelled_seen, IsCall};
+ghost use Rattle.script_text.specs.Spelled.{spelled_seen, IsSpelledCall};
 ghost use Rattle.script_text.specs.TaskTables.{tasks_seen, IsWaitThere, IsTable};
-ghost use Rattle.script_text.specs.Scripts.{calls_seen, HasFault, HasFewCalls, IsDraft, IsTextOf, IsWithin, IsSpelled, IsAdded, IsItemRead, IsWhole, Fails, item_found, words_fault, limits_fault};
+ghost use Rattle.script_text.specs.Scripts.{calls_seen, HasFault, HasFewCalls, IsDraft, IsTextOf, IsWithin, IsSpelled, IsAdded, IsItemRead, IsWholeDraft, Fails, item_found, words_fault, limits_fault};
 
 use crate::causes::line_verb;
 use crate::labels::add_labels;
@@ -70,8 +70,8 @@ fn spell<'w, 'a>(
     words: &'w [Part<'a>],
 ) -> Result<(Spelled<'w, 'a>, Place<'a>), ScriptFault>
     requires within { IsWithin found }
-    requires words { map placed words.now ≡ words_of is_space found.line }
-    requires fit { All Fits words.now }
+    requires words { map placed words.now ≡ part_words is_space found.line }
+    requires fit { All FitsPlaces words.now }
     requires few { HasFewCalls tasks.now }
     requires table { IsTable tasks.now }
     ensures ok { IfOk result (λ s. IsSpelled (tasks_seen tasks.now) found.entry s.0 s.1) }
@@ -111,7 +111,7 @@ fn add_call<'a>(
 ) -> Result<(), ScriptFault>
     requires draft { IsDraft draft.old }
     requires few { HasFewCalls draft.old.tasks }
-    requires call { IsCall call.now }
+    requires call { IsSpelledCall call.now }
     requires task { call.now.task < length (tasks_seen draft.old.tasks).names }
     requires wait { IsWaitThere (tasks_seen draft.old.tasks) (change_of (spelled_seen call.now)) }
     ensures ok { OnOk result (IsAdded draft.old draft.new (spelled_seen call.now)) }
@@ -176,7 +176,7 @@ fn read_item<'a>(
 
 /// Whether a line is skipped: it is empty or of spaces, or it begins with `#`.
 fn is_skipped(line: Part<'_>) -> bool
-    requires { Fits line }
+    requires { FitsPlaces line }
     ensures { result ≡ is_skipped_line (as_line line.entry) }
 {
     line.bytes.first() == Some(&b'#') || split_word(line, Separator::Space).is_none()
@@ -185,7 +185,7 @@ fn is_skipped(line: Part<'_>) -> bool
 /// Reads the calls of a text, and their labels.
 pub fn read_calls<'a>(alloc: Global, text: Part<'a>) -> Result<Draft<'a>, ScriptFault>
     requires { end_of text ≤ most_bytes }
-    ensures ok { IfOk result (λ draft. IsWhole draft (lines_of text.entry)) }
+    ensures ok { IfOk result (λ draft. IsWholeDraft draft (lines_of text.entry)) }
     ensures err { IfErr result (λ e. Fails e (script_of (lines_of text.entry))) }
 {
     let Ok(labels) = Labels::new(alloc) else {

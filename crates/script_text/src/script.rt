@@ -1,10 +1,10 @@
 ghost use Rattle.std.specs.Prelude.{◌≡◌, ◌≤◌, length, map, IfOk};
-ghost use Rattle.script_spec.specs.Grammar.{parse, most_lines, most_tasks};
+ghost use Rattle.script_spec.specs.Grammar.{parse, most_lines, most_script_tasks};
 ghost use Rattle.script_spec.specs.Lines.{table_of};
 ghost use Rattle.script_spec.specs.Tasks.{task_names};
 ghost use Rattle.script_text.specs.Lines.{call_seen};
 ghost use Rattle.script_text.specs.Scripts.{AreRead, Reads};
-ghost use Rattle.script_text.specs.TaskTables.{names_in};
+ghost use Rattle.script_text.specs.TaskTables.{part_names};
 
 use crate::line::Line;
 use crate::reading::{Draft, read_calls};
@@ -80,8 +80,8 @@ impl<'a> Script<'a> {
 
     /// The names of the tasks by pid: `init`, and then those of the `fork` lines in their order.
     pub fn tasks(&self) -> &[Part<'a>]
-        ensures names { names_in result.now ≡ task_names self.now }
-        ensures few { length result.now ≤ most_tasks }
+        ensures names { part_names result.now ≡ task_names self.now }
+        ensures few { length result.now ≤ most_script_tasks }
     {
         self.tasks.as_slice()
     }
@@ -92,8 +92,8 @@ impl<'a> Script<'a> {
         ensures calls { map call_seen result.0.items ≡ self.entry }
         ensures read { AreRead self.entry }
         ensures few { length result.0.items ≤ most_lines }
-        ensures names { names_in result.1.items ≡ task_names self.entry }
-        ensures few_names { length result.1.items ≤ most_tasks }
+        ensures names { part_names result.1.items ≡ task_names self.entry }
+        ensures few_names { length result.1.items ≤ most_script_tasks }
         ensures labels { result.2 ≡ table_of self.entry }
     {
         let Script {

@@ -1,7 +1,7 @@
 ghost use Rattle.std.specs.Prelude.{◌≡◌, ◌≤◌, ◌<◌, length, map, true};
 ghost use Rattle.std.specs.List.{list_all};
 ghost use Rattle.rule_text.specs.Parts.{placed};
-ghost use Rattle.script_text.specs.Lines.{call_seen, is_word};
+ghost use Rattle.script_text.specs.Lines.{call_seen, has_bytes};
 ghost use Rattle.script_text.specs.Spelled.{spelled_seen};
 
 use crate::line::Line;
@@ -25,7 +25,7 @@ impl<'w, 'a> Spelled<'w, 'a> {
     pub fn line(&self) -> Line<'a>
         requires some { 0 < length self.now.words.now }
         requires few { length self.now.words.now ≤ 4 }
-        requires words { list_all is_word (map placed self.now.words.now) ≡ true }
+        requires words { list_all has_bytes (map placed self.now.words.now) ≡ true }
         ensures { call_seen result ≡ spelled_seen self.now }
     {
         Line {

@@ -1,10 +1,10 @@
 ghost use Rattle.std.specs.Prelude.{◌≡◌, ◌≤◌, ◌<◌, ◌+◌, ◌∷◌, ◌++◌, [], length, slice_index_or, slice_set, reverse, nat_lt, true, false, IfOk, OnOk};
 ghost use Rattle.std.specs.List.{position, position_or_len, list_any};
 ghost use Rattle.std.specs.Str.{bytes_eq};
-ghost use Rattle.script_spec.specs.Tasks.{forked_name, lineage, latest_child as latest_child_of, is_pid as is_pid_of, is_there as is_there_of, pid_of as pid_of_name, is_gone as is_gone_of, is_live as is_live_of, is_latest_child as is_latest_child_of, change_of as change_of_call};
-ghost use Rattle.script_text.specs.TaskTables.{names_in, tasks_seen, tasks_after, flag_in, count_in, change_seen, IsWaitThere, IsTable, IsFirst, IsForked, IsFlagged, IsAwaited, IsCounted, IsTasksAfter};
-ghost use Rattle.script_text.specs.Spelled.{spelled_seen, IsCall};
-ghost use Rattle.script_spec.specs.Grammar.{most_tasks};
+ghost use Rattle.script_spec.specs.Tasks.{forked_name, lineage, latest_child as latest_child_of, is_pid as is_pid_of, is_there as is_there_of, pid_of as pid_of_name, is_gone as is_gone_of, is_live_name as is_live_of, is_latest_child as is_latest_child_of, change_of as change_of_call};
+ghost use Rattle.script_text.specs.TaskTables.{part_names, tasks_seen, table_after, flag_in, count_in, change_seen, IsWaitThere, IsTable, IsFirst, IsTaskForked, IsFlagged, IsTaskAwaited, IsCounted, IsTasksAfter};
+ghost use Rattle.script_text.specs.Spelled.{spelled_seen, IsSpelledCall};
+ghost use Rattle.script_spec.specs.Grammar.{most_script_tasks};
 
 use crate::spelled::Spelled;
 use crate::words::word;
@@ -47,7 +47,7 @@ fn first_of(names: &[Part<'_>], name: &[u8]) -> Option<usize>
 
 /// The place of a name among the names of tasks, or their number.
 fn place_of(names: &[Part<'_>], name: &[u8]) -> usize
-    ensures { result ≡ position_or_len (λ t. bytes_eq t name.now) (names_in names.now) }
+    ensures { result ≡ position_or_len (λ t. bytes_eq t name.now) (part_names names.now) }
 {
     match first_of(names, name) {
         Some(at) => at,
@@ -115,7 +115,7 @@ fn latest_child(flags: &[bool], parents: &[u16], task: usize) -> Option<usize>
 
 /// What a call does to the tasks.
 fn change_of<'a>(call: &Spelled<'_, 'a>) -> Change<'a>
-    requires { IsCall call.now }
+    requires { IsSpelledCall call.now }
     ensures { change_seen result ≡ change_of_call (spelled_seen call.now) }
 {
     match call.verb {
@@ -195,9 +195,9 @@ impl<'a> TaskTable<'a> {
 
     /// Whether a call makes more tasks than a script may have.
     pub fn is_full_for(&self, call: &Spelled<'_, 'a>) -> bool
-        requires call { IsCall call.now }
-        requires few { length self.now.names.items ≤ most_tasks }
-        ensures { result ≡ nat_lt most_tasks (length ((tasks_seen self.now).names ++ forked_name (change_of_call (spelled_seen call.now)))) }
+        requires call { IsSpelledCall call.now }
+        requires few { length self.now.names.items ≤ most_script_tasks }
+        ensures { result ≡ nat_lt most_script_tasks (length ((tasks_seen self.now).names ++ forked_name (change_of_call (spelled_seen call.now)))) }
     {
         match change_of(call) {
             Change::Fork(_) => self.names.len() >= MOST_TASKS,
@@ -206,7 +206,7 @@ impl<'a> TaskTable<'a> {
     }
 
     fn fork(&mut self, parent: u16, name: Part<'a>) -> Result<(), AllocError>
-        ensures { OnOk result (IsForked parent name.entry.bytes.now self.old self.new) }
+        ensures { OnOk result (IsTaskForked parent name.entry.bytes.now self.old self.new) }
     {
         self.names.push(name)?;
         self.parents.push(parent)?;
@@ -234,18 +234,18 @@ impl<'a> TaskTable<'a> {
 
     fn wait(&mut self, child: usize)
         requires { child < length self.old.awaited.items }
-        ensures { IsAwaited child self.old self.new }
+        ensures { IsTaskAwaited child self.old self.new }
     {
         set_flag(self.awaited.as_mut_slice(), child);
     }
 
     /// Adds a call.
     pub fn add(&mut self, call: &Spelled<'_, 'a>) -> Result<(), AllocError>
-        requires call { IsCall call.now }
+        requires call { IsSpelledCall call.now }
         requires table { IsTable self.old }
         requires task { call.now.task < length self.old.names.items }
         requires small { count_in self.old.calls.items call.now.task < 131072 }
-        requires room { length (tasks_seen self.old).names + length (forked_name (change_of_call (spelled_seen call.now))) ≤ most_tasks }
+        requires room { length (tasks_seen self.old).names + length (forked_name (change_of_call (spelled_seen call.now))) ≤ most_script_tasks }
         requires there { IsWaitThere (tasks_seen self.old) (change_of_call (spelled_seen call.now)) }
         ensures { OnOk result (IsTasksAfter call.now.task (change_of_call (spelled_seen call.now)) self.old self.new) }
     {

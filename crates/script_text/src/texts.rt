@@ -1,7 +1,7 @@
 ghost use Rattle.std.specs.Prelude.{◌≡◌, ◌≤◌, ◌<◌, ◌+◌, [], false, length, IfOk, IfSome, MatchOption};
 ghost use Rattle.file_spec.specs.Writes.{file_of as file_of_name};
 ghost use Rattle.script_spec.specs.Grammar.{most_rows};
-ghost use Rattle.script_text.specs.Spelled.{spelled_seen, IsCall};
+ghost use Rattle.script_text.specs.Spelled.{spelled_seen, IsSpelledCall};
 ghost use Rattle.script_text.specs.WrittenTexts.{IsText, IsTextOfCall, text_rows, is_batch_file};
 
 use crate::spelled::Spelled;
@@ -64,7 +64,7 @@ fn read_file<'a>(alloc: Global, name: &[u8], text: &'a [u8]) -> Result<WrittenTe
 
 /// What the text of a call spells.
 pub fn read_text<'a>(alloc: Global, call: &Spelled<'_, 'a>) -> Result<WrittenText<'a>, AllocError>
-    requires call { IsCall call.now }
+    requires call { IsSpelledCall call.now }
     requires short { length call.now.text.bytes.now ≤ 65536 }
     ensures { IfOk result (λ t. IsTextOfCall call.now.verb (spelled_seen call.now) t) }
 {

@@ -3,7 +3,7 @@ ghost use Rattle.std.specs.List.{list_all, list_any};
 ghost use Rattle.std.specs.Str.{bytes_eq};
 ghost use Rattle.smack_base.specs.Paths.{is_slash as is_slash_byte, is_name_byte};
 ghost use Rattle.text_spec.specs.Texts.{is_space};
-ghost use Rattle.rule_text.specs.Parts.{Fits, placed, words_of};
+ghost use Rattle.rule_text.specs.Parts.{FitsPlaces, placed, part_words};
 ghost use Rattle.script_spec.specs.Words.{cap_of as cap_of_name, is_deep as is_deep_word, is_unbuilt_file as is_unbuilt_file_name, is_file_name as is_word_file_name, number_of as number_of_word, signal_of as signal_of_word, trace_way_of as trace_way_of_name, is_decimal as is_decimal_word, value_from, is_digit as is_digit_byte, is_task_byte as is_byte_of_task, is_task_name as is_name_of_task, is_way as is_way_of_verb, is_of_kind as is_word_of_kind, is_deep_path as is_deep_word_of, has_deep_path as have_deep_path, bad_word as bad_word_of, word_at};
 ghost use Rattle.script_spec.specs.Grammar.{text_count as text_count_of_words};
 
@@ -196,7 +196,7 @@ fn is_of_kind(kind: WordKind, before: &[Part<'_>], word: &[u8]) -> bool
 pub fn bad_word(kinds: &[WordKind], words: &[Part<'_>]) -> Option<u32>
     requires few { length kinds.now ≤ 3 }
     requires as_many { length kinds.now < length words.now }
-    requires fit { All Fits words.now }
+    requires fit { All FitsPlaces words.now }
     ensures { result ≡ bad_word_of (map placed (take 1 words.now)) kinds.now (map placed (drop 1 words.now)) }
 {
     for (i, kind) in kinds.iter().enumerate() {
@@ -238,9 +238,9 @@ pub fn has_deep_path(kinds: &[WordKind], words: &[Part<'_>]) -> bool
 
 /// Puts the words of a line, in order, in the place of those that are there.
 pub fn put_words<'a>(words: &mut Vec<Part<'a>>, line: Part<'a>) -> Result<(), AllocError>
-    requires { Fits line }
-    ensures words { OnOk result (map placed words.new.items ≡ words_of is_space line.entry) }
-    ensures fit { OnOk result (All Fits words.new.items) }
+    requires { FitsPlaces line }
+    ensures words { OnOk result (map placed words.new.items ≡ part_words is_space line.entry) }
+    ensures fit { OnOk result (All FitsPlaces words.new.items) }
 {
     words.clear();
     let mut rest = line;

@@ -5,11 +5,11 @@ ghost use Rattle.world_spec.specs.Signals.{is_signal as is_signal_number, with_s
 use std::marker::Model;
 
 /// The number is not that of a signal, from 1 to 31.
-#[derive(Clone, Copy, Debug, PartialEq, Eq)]
+#[derive(Clone, Copy, PartialEq, Eq)]
 pub struct OutOfRange;
 
 /// The signals that wait for a task.
-#[derive(Debug, Drop)]
+#[derive(Drop)]
 pub struct Pending {
     /// Whether a signal waits, by its number less one.
     waits: [bool; 31],

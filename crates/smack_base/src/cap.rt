@@ -1,6 +1,6 @@
 /// A capability that bears on Smack (Smack guide, "Privilege", and `onlycap` and `ptrace` in its
 /// list of smackfs files).
-#[derive(Clone, Copy, Debug, PartialEq, Eq)]
+#[derive(Clone, Copy, PartialEq, Eq)]
 pub enum Cap {
     /// CAP_MAC_ADMIN: change rules, attributes and the own label.
     MacAdmin,

@@ -29,5 +29,5 @@ impl Duplicate for LabelId {
 }
 
 /// The caller's name for a task: 0 is the first task.
-#[derive(Clone, Copy, Debug, PartialEq, Eq)]
+#[derive(Clone, Copy, PartialEq, Eq)]
 pub struct Pid(pub u16);

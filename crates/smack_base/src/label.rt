@@ -6,7 +6,7 @@ use std::marker::Model;
 /// A Smack label: 1 to 255 bytes from 0x21 to 0x7E, none of them `/`, `\`, `'` or `"`, the first
 /// not `-` (Smack guide, "Labels"; the exact bytes are our own). Upper and lower case are
 /// different labels.
-#[derive(Debug, Drop)]
+#[derive(Drop)]
 pub struct Label {
     buf: [u8; 255],
     len: usize,
@@ -24,7 +24,7 @@ impl Model for Label {
 }
 
 /// What is wrong with a text as a label, the first in this order.
-#[derive(Clone, Copy, Debug, PartialEq, Eq)]
+#[derive(Clone, Copy, PartialEq, Eq)]
 pub enum LabelFault {
     /// It has no byte.
     Empty,

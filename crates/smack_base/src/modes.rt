@@ -21,7 +21,7 @@ pub struct Modes {
 }
 
 /// The place, from 0, of the first byte that is no mode letter and no `-`.
-#[derive(Clone, Copy, Debug, PartialEq, Eq)]
+#[derive(Clone, Copy, PartialEq, Eq)]
 pub struct BadLetter {
     pub at: u32,
 }
@@ -189,7 +189,7 @@ impl Modes {
 }
 
 /// The printed form of a mode set: 1 to 6 bytes.
-#[derive(Debug, Drop)]
+#[derive(Drop)]
 pub struct ModeText {
     buf: [u8; 6],
     len: usize,

@@ -11,7 +11,7 @@ use std::marker::Model;
 /// What is wrong with a text as a path. Where no slash stands first it is `NotAbsolute`; then the
 /// first bad name decides, by the first fault in this order; `TooDeep` comes where no name is bad.
 /// Places count from 0.
-#[derive(Clone, Copy, Debug, PartialEq, Eq)]
+#[derive(Clone, Copy, PartialEq, Eq)]
 pub enum PathFault {
     /// It has no byte, or its first byte is not `/`.
     NotAbsolute,
@@ -31,7 +31,7 @@ pub enum PathFault {
 
 /// An absolute path: `/`, or 1 to 32 names, each behind a `/`. A name has 1 to 64 bytes from 0x21
 /// to 0x7E, none of them `/`, and is not `.` or `..`.
-#[derive(Debug, Drop)]
+#[derive(Drop)]
 pub struct Path {
     names: NameList,
 }

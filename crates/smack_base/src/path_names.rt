@@ -6,7 +6,7 @@ ghost use Rattle.smack_base.specs.PathNames.{path_name, path_names};
 use std::marker::Model;
 
 /// The names of a path that are still to be read, each behind a slash, with their places.
-#[derive(Debug, Drop)]
+#[derive(Drop)]
 pub(crate) struct PathNames<'a> {
     at: u32,
     rest: &'a [u8],

@@ -53,7 +53,7 @@ impl Duplicate for RuleOp {
 pub type RuleOps = Sequence<RuleOp>;
 
 /// A rule of a subject on an object, as a self rule states it.
-#[derive(Clone, Copy, Debug, PartialEq, Eq)]
+#[derive(Clone, Copy, PartialEq, Eq)]
 pub struct Pair {
     pub s: LabelId,
     pub o: LabelId,

@@ -18,7 +18,7 @@ impl Duplicate for u8 {
 }
 
 /// A growing list: a `Vec` that contracts see as the list of its items.
-#[derive(Debug, Drop)]
+#[derive(Drop)]
 pub struct Sequence<T> {
     list: Vec<T>,
 }

@@ -4,7 +4,7 @@ use Rattle.std.proofs.lemmas.List.{take_more, map-append, length-take, length-ma
 use Rattle.smack_base.specs.declared.rule_op.RuleOp.{RuleOp}
 use Rattle.rules_spec.specs.declared.Batch.{Batch}
 use Rattle.rule_word.specs.Layout.{op_word, head_word}
-use Rattle.live_table.specs.Batches.{batch_words, words_of}
+use Rattle.live_table.specs.Batches.{batch_words, journal_words}
 use Rattle.live_table.specs.Seats.{SeatValue}
 use Rattle.live_table.specs.Lists.{Has, here, there}
 
@@ -66,7 +66,7 @@ module _ {E : Type 0} where
 -- the rows of a batch, as they are filled
 pub batch_filled : (none : List ℕ) (items : List RuleOp) (b : Batch) (w len : ℕ) → none ≡ []
     → w ≡ head_word b.task b.seq len → len ≡ length b.ops → items ≡ b.ops
-    → (none ++ w ∷ []) ++ map op_word items ≡ words_of (b ∷ [])
+    → (none ++ w ∷ []) ++ map op_word items ≡ journal_words (b ∷ [])
 batch_filled none items b w len e h l is =
     let word : w ≡ head_word b.task b.seq (length b.ops) = h ∙ ap (head_word b.task b.seq) l in
     (λ i. (e i ++ word i ∷ []) ++ map op_word (is i)) ∙ sym (append-nil (batch_words b))

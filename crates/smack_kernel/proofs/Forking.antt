@@ -17,7 +17,7 @@ use Rattle.world_spec.specs.Worlds.{World, world_first, creds_of, creds_or_first
 use Rattle.world_spec.specs.Questions.{asks}
 use Rattle.world_spec.specs.Steps.{Effect, went, verdict_of, effect, stepped, step}
 use Rattle.world_spec.specs.Replays.{StandsOver, replay_of}
-use Rattle.world_replays.proofs.Standing.{longer_stands}
+use Rattle.world_laws.proofs.Standing.{longer_stands}
 use Rattle.smack_world.specs.Stepping.{WorldValue}
 use Rattle.live_table.specs.declared.view.View.{View}
 use Rattle.live_table.specs.Lists.{Begins, Has, here, rest_of}
@@ -29,11 +29,11 @@ use Rattle.live_table.proofs.Lists.{begins_self, begins_length}
 use Rattle.world_spec.specs.Replies.{child_of}
 use Rattle.smack_kernel.specs.Histories.{world_means}
 use Rattle.smack_kernel.specs.Indexes.{StandsAt}
-use Rattle.smack_kernel.specs.Growth.{entry_of}
+use Rattle.smack_kernel.specs.Growth.{told_entry}
 use Rattle.smack_kernel.specs.declared.turns.Entered.{Entered}
 use Rattle.smack_kernel.specs.declared.turns.Turned.{Turned}
 use Rattle.smack_kernel.specs.declared.turns.Turned.TheVariants as Turned
-use Rattle.smack_kernel.specs.Tasks.{TaskValue, AreSeen, IsTask, Calls, Starts, task_of, most_calls}
+use Rattle.smack_kernel.specs.Tasks.{TaskValue, AreSeen, IsTaskState, Calls, Starts, task_of, most_calls}
 use Rattle.smack_kernel.specs.Turns.{IsMade}
 use Rattle.smack_kernel.specs.Forks.{task_made, IsBranched, MayFork, Drew, Forks}
 use Rattle.smack_kernel.specs.Answers.{IsForked}
@@ -195,12 +195,12 @@ none_of None is = refl
 none_of (Some k) is = absurd (let e : true ≡ false = is in cc)
 
 -- a task takes the turn and its fork makes a task
-module _ {s : SeatValue Entry} {w : View Entry} {rules : IndexValue} {rows : ℕ} {creds : Creds} (task : IsTask s rules rows creds)
+module _ {s : SeatValue Entry} {w : View Entry} {rules : IndexValue} {rows : ℕ} {creds : Creds} (task : IsTaskState s rules rows creds)
     (x m' : WorldValue) (t : Turns world_means s.view w x) (calls : ℕ) (pid : Pid) (r : Entered)
     (is_made : IsMade x m' (ruling w.journal) s.number (calls + 1) (Call.Task (TaskCall.Fork pid)) (Turned.Entry r)) (k : ℕ)
     (is_child : child_of r.reply ≡ Some k) (stands : StandsOver w.journal m'.trail m'.world) where
   abbrev pub entry : Entry
-  entry = entry_of s.number (calls + 1) (Call.Task (TaskCall.Fork pid)) r.version r.checks r.reply
+  entry = told_entry s.number (calls + 1) (Call.Task (TaskCall.Fork pid)) r.version r.checks r.reply
 
   replies : child_of (step x.world (ruling w.journal) s.number (Call.Task (TaskCall.Fork pid))).reply ≡ Some k
   replies = ap child_of (sym is_made.0.4) ∙ is_child
@@ -258,7 +258,7 @@ module _ {s : SeatValue Entry} {w : View Entry} {rules : IndexValue} {rows : ℕ
       is_creds,
     )
 
-    pub task_forked : IsTask s3 rules' rows' creds'
+    pub task_forked : IsTaskState s3 rules' rows' creds'
     task_forked = task_given m' task number (f.numbers ∙ seen_numbers)
         (f.pen ∙ (ap (λ (z : View Entry). z.pen) t.view ∙ task.rests.0), f.turn) (stands_longer f.journal index) over history
         live
@@ -294,7 +294,7 @@ module _ {s : SeatValue Entry} {w : View Entry} {rules : IndexValue} {rows : ℕ
           ∙ (λ i. creds_of (sym (ap (λ (z : WorldValue). z.world) is_made.0.1) i) (sym child_number i)))),
     )
 
-    pub child_task : IsTask c rules' rows' creds_c
+    pub child_task : IsTaskState c rules' rows' creds_c
     child_task =
         let live = subst (λ z. IsLive z c.number creds_c)
         (child_over.world ∙ ap (replay_of c.view.journal) child_met) child_live in record {

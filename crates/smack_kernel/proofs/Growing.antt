@@ -5,13 +5,13 @@ use Rattle.rules_spec.specs.Creds.{Creds}
 use Rattle.world_spec.specs.declared.Entry.{Entry}
 use Rattle.live_table.specs.declared.view.View.{View}
 use Rattle.live_table.specs.Lists.{Begins, Has, here, there, rest_of}
-use Rattle.live_table.specs.Batches.{batches_by, task_of}
+use Rattle.live_table.specs.Batches.{batches_by, task_of_batch}
 use Rattle.live_table.specs.Machines.{entries_by}
 use Rattle.live_table.specs.Plays.{with_pen}
 use Rattle.live_table.specs.Seats.{Sees}
 use Rattle.live_table.proofs.Lists.{begins_self, begins_more, those-append, those_none, those_all}
 use Rattle.smack_kernel.specs.Histories.{world_means}
-use Rattle.smack_kernel.specs.Growth.{Grows, Publishes, IsJudged, batch_of}
+use Rattle.smack_kernel.specs.Growth.{Grows, Publishes, IsBatchJudged, batch_of}
 use Rattle.smack_kernel.specs.declared.publishing.Published.{Published}
 use Rattle.smack_kernel.specs.declared.publishing.Published.TheVariants as Published
 
@@ -42,15 +42,15 @@ module _ {number : ℕ} {ended : List ℕ} {j j' : List Batch} {h h' : List Entr
   grows_batch b own apart g = record {
     journal = begins_more (b ∷ []) g.journal;
     history = g.history;
-    own_batches = those-append task_of number j' (b ∷ [])
+    own_batches = those-append task_of_batch number j' (b ∷ [])
         ∙ (ap (λ l. l ++ those) (g.own_batches ∙ append-nil (batches_by number j))
         ∙ ap (λ l. batches_by number j ++ l)
-        (those_all task_of number (b ∷ []) (λ x i. ap task_of (only_one i) ∙ own)));
+        (those_all task_of_batch number (b ∷ []) (λ x i. ap task_of_batch (only_one i) ∙ own)));
     own_entries = g.own_entries;
-    batches = λ k x. those-append task_of k j' (b ∷ [])
+    batches = λ k x. those-append task_of_batch k j' (b ∷ [])
         ∙ (ap (λ l. batches_by k j' ++ l)
-        (those_none task_of k (b ∷ [])
-        (λ y i e. apart (subst (λ z. Has z ended) (sym e ∙ (ap task_of (only_one i) ∙ own)) x)))
+        (those_none task_of_batch k (b ∷ [])
+        (λ y i e. apart (subst (λ z. Has z ended) (sym e ∙ (ap task_of_batch (only_one i) ∙ own)) x)))
         ∙ (append-nil (batches_by k j') ∙ g.batches k x));
     entries = g.entries;
   }
@@ -78,7 +78,7 @@ back_grows v m n number named s is =
 pub batch_grows : (v m n : View Entry) (number : ℕ) (creds : Creds) (b : Batch) → v.numbers ≡ number ∷ rest_of v.numbers
     → (Has number (rest_of v.numbers) → ⊥) → b.task ≡ number → Sees (with_pen v) m
     → n ≡ record m { journal = m.journal ++ b ∷ []; pen = false; filled = [] }
-    → IsJudged m.journal creds b.ops Published.Batch
+    → IsBatchJudged m.journal creds b.ops Published.Batch
     → Publishes number (rest_of v.numbers) v.journal n.journal v.history n.history b.seq b.ops creds
 batch_grows v m n number creds b named apart own s is judged =
     let same : b ≡ batch_of number b.seq b.ops = λ i. record { task = own i; seq = b.seq; ops = b.ops } in
@@ -95,7 +95,7 @@ batch_grows v m n number creds b named apart own s is judged =
 
 -- what was judged with the pen holds of what is seen after it
 pub back_judged : (m n : View Entry) (creds : Creds) (ops : List RuleOp) (p q : Published)
-    → n ≡ record m { pen = false } → q ≡ p → IsJudged m.journal creds ops q
-    → IsJudged n.journal creds ops p
+    → n ≡ record m { pen = false } → q ≡ p → IsBatchJudged m.journal creds ops q
+    → IsBatchJudged n.journal creds ops p
 back_judged m n creds ops p q is same judged = subst
-    (λ (z : View Entry × Published). IsJudged z.0.journal creds ops z.1) (λ i. (sym is i, same i)) judged
+    (λ (z : View Entry × Published). IsBatchJudged z.0.journal creds ops z.1) (λ i. (sym is i, same i)) judged

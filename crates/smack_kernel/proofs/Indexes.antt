@@ -3,7 +3,7 @@ use Rattle.std.proofs.Math.Seq.{take-append_seam}
 use Rattle.rules_spec.specs.declared.Batch.{Batch}
 use Rattle.rule_fold.specs.Index.{IndexValue, StandsFor}
 use Rattle.live_table.specs.Lists.{Begins}
-use Rattle.live_table.specs.Batches.{Cut, rows_of, first_of, first_rows}
+use Rattle.live_table.specs.Batches.{Cut, rows_of, first_batch, first_rows}
 use Rattle.live_table.proofs.Cuts.{rows_cut, rows_of_batch, batch_rows, length_rows, cut_within, cut_next, some_one}
 use Rattle.smack_kernel.specs.Indexes.{StandsAt, version_rows}
 
@@ -85,10 +85,10 @@ module _ {rules : IndexValue} {rows : ℕ} {journal : List Batch} where
   rows_whole s all = s.cut.rows ∙ ap rows_of (front_all s (omega arith))
 
   -- where no batch is left the version is the newest
-  pub stands_end : (s : StandsAt rules rows journal) → None ≡ first_of s.rest → rules.version ≡ length journal
+  pub stands_end : (s : StandsAt rules rows journal) → None ≡ first_batch s.rest → rules.version ≡ length journal
   stands_end s e = case s.rest s.cut e
     where
-      case : (rest : List Batch) → Cut journal s.front rest rows → None ≡ first_of rest → rules.version ≡ length journal
+      case : (rest : List Batch) → Cut journal s.front rest rows → None ≡ first_batch rest → rules.version ≡ length journal
       case [] c e = number_of s.stands ∙ sym (ap length c.is ∙ ap length (append-nil s.front))
       case (b ∷ rest) c e = absurd (let e' : ◌≡◌ {A = Option Batch} None (Some b) = e in cc)
 
@@ -104,12 +104,12 @@ module _ {rules : IndexValue} {rows : ℕ} {journal : List Batch} where
           omega arith
 
   pub absorbs : {after : IndexValue} {next : ℕ} (o : Option Batch) (b : Batch) (s : StandsAt rules rows journal)
-      → o ≡ first_of s.rest → o ≡ Some b
+      → o ≡ first_batch s.rest → o ≡ Some b
       → ((version : List Batch) → StandsFor rules version → StandsFor after (version ++ b ∷ []))
       → next ≡ rows + (1 + length b.ops) → Absorbs rules rows journal after next
   absorbs {after} {next} o b s first is takes more = case s.rest s.cut (sym is ∙ first)
     where
-      case : (rest : List Batch) → Cut journal s.front rest rows → Some b ≡ first_of rest
+      case : (rest : List Batch) → Cut journal s.front rest rows → Some b ≡ first_batch rest
           → Absorbs rules rows journal after next
       case [] c e = absurd (let e' : ◌≡◌ {A = Option Batch} (Some b) None = e in cc)
       case (x ∷ rest) c e =
@@ -139,11 +139,11 @@ module _ {rules : IndexValue} {rows : ℕ} {journal : List Batch} where
       case [] c = let w = cut_within c in omega arith
       case (b ∷ rest) c = let w = cut_within c in let k = rows_of_batch b rest in let l = batch_rows b in omega arith
 
-  pub first_rows_of : (o : Option Batch) (b : Batch) (s : StandsAt rules rows journal) → o ≡ first_of s.rest
+  pub first_rows_of : (o : Option Batch) (b : Batch) (s : StandsAt rules rows journal) → o ≡ first_batch s.rest
       → o ≡ Some b → first_rows s.rest ≡ 1 + length b.ops
   first_rows_of o b s first is = case s.rest (sym is ∙ first)
     where
-      case : (rest : List Batch) → Some b ≡ first_of rest → first_rows rest ≡ 1 + length b.ops
+      case : (rest : List Batch) → Some b ≡ first_batch rest → first_rows rest ≡ 1 + length b.ops
       case [] e = absurd (let e' : ◌≡◌ {A = Option Batch} (Some b) None = e in cc)
       case (x ∷ rest) e = ap (λ (z : Batch). first_rows (z ∷ [])) (sym (some_one e)) ∙ batch_rows b
 

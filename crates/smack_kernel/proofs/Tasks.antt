@@ -22,12 +22,12 @@ use Rattle.smack_kernel.specs.Growth.{IsPublished}
 use Rattle.smack_kernel.specs.declared.publishing.Published.{Published}
 use Rattle.smack_kernel.specs.declared.publishing.Published.TheVariants as Published
 use Rattle.smack_kernel.specs.declared.index.Index.{Index}
-use Rattle.smack_kernel.specs.Tasks.{ToldValue, AreSeen, IsTask, IsTold, Does, Hears, Adopts, task_of}
+use Rattle.smack_kernel.specs.Tasks.{ToldValue, AreSeen, IsTaskState, IsTold, Does, Hears, Adopts, task_of}
 use Rattle.smack_kernel.proofs.Indexes.{stands_first, stands_longer, stands_within, stands_rows}
 use Rattle.smack_kernel.proofs.Growing.{grows_by}
 use Rattle.smack_kernel.proofs.Worlds.{IsLive, live_kept, seen_longer}
 
-module _ {s : SeatValue Entry} {rules : IndexValue} {rows : ℕ} {creds : Creds} (t : IsTask s rules rows creds) where
+module _ {s : SeatValue Entry} {rules : IndexValue} {rows : ℕ} {creds : Creds} (t : IsTaskState s rules rows creds) where
   -- what has grown without an entry of the task's own leaves it live with its credentials
   pub still_live : (s' : SeatValue Entry) → AreSeen s'.view.journal s'.view.history → Begins s'.view.journal s.view.journal
       → Begins s'.view.history s.view.history
@@ -41,7 +41,7 @@ module _ {s : SeatValue Entry} {rules : IndexValue} {rows : ℕ} {creds : Creds}
       → s'.view.numbers ≡ s.view.numbers ++ more → (Has s.number more → ⊥)
       → (s'.view.pen ≡ s.view.pen) × (s'.view.turn ≡ s.view.turn) → StandsAt rules' rows' s'.view.journal
       → AreSeen s'.view.journal s'.view.history → IsLive (replay_of s'.view.journal s'.view.history) s.number creds'
-      → IsTask s' rules' rows' creds'
+      → IsTaskState s' rules' rows' creds'
   task_with {s'} {rules'} {rows'} {creds'} more number numbers apart rests stands seen live =
       let named : s'.view.numbers ≡ s.number ∷ (rest_of s.view.numbers ++ more) = numbers
       ∙ ap (λ z. z ++ more) t.numbered in
@@ -62,14 +62,14 @@ module _ {s : SeatValue Entry} {rules : IndexValue} {rows : ℕ} {creds : Creds}
   pub task_same : {s' : SeatValue Entry} {rules' : IndexValue} {rows' : ℕ} {creds' : Creds} → s'.number ≡ s.number
       → s'.view.numbers ≡ s.view.numbers → (s'.view.pen ≡ s.view.pen) × (s'.view.turn ≡ s.view.turn)
       → StandsAt rules' rows' s'.view.journal → AreSeen s'.view.journal s'.view.history
-      → IsLive (replay_of s'.view.journal s'.view.history) s.number creds' → IsTask s' rules' rows' creds'
+      → IsLive (replay_of s'.view.journal s'.view.history) s.number creds' → IsTaskState s' rules' rows' creds'
   task_same {s'} number numbers rests stands seen live =
       task_with {s' = s'} [] number (numbers ∙ sym (append-nil s.view.numbers)) (λ h. elim h [ ]) rests stands seen live
 
 module _ {s s' : SeatValue Entry} {rules rules' : IndexValue} {rows rows' : ℕ} {creds : Creds} where
   -- a look at the rows keeps what holds of a task
-  pub sees_task : IsTask s rules rows creds → (s'.table ≡ s.table) × (s'.number ≡ s.number) → Sees s.view s'.view
-      → StandsAt rules' rows' s'.view.journal → IsTask s' rules' rows' creds
+  pub sees_task : IsTaskState s rules rows creds → (s'.table ≡ s.table) × (s'.number ≡ s.number) → Sees s.view s'.view
+      → StandsAt rules' rows' s'.view.journal → IsTaskState s' rules' rows' creds
   sees_task t same sees stands =
       let history : s'.view.history ≡ s.view.history = ap (λ (z : View Entry). z.history) sees.view in
       let seen : AreSeen s'.view.journal s'.view.history = subst (AreSeen s'.view.journal) (sym history)
@@ -79,7 +79,7 @@ module _ {s s' : SeatValue Entry} {rules rules' : IndexValue} {rows rows' : ℕ}
       (still_live t s' seen sees.journal (subst (λ h. Begins h s.view.history) (sym history) (begins_self s.view.history))
       (ap (entries_by world_means s.number) history))
 
-  pub sees_does : (made made' : ℕ) → IsTask s rules rows creds → (s'.table ≡ s.table) × (s'.number ≡ s.number)
+  pub sees_does : (made made' : ℕ) → IsTaskState s rules rows creds → (s'.table ≡ s.table) × (s'.number ≡ s.number)
       → Sees s.view s'.view
       → StandsAt rules' rows' s'.view.journal → rules.version ≤ rules'.version
       → Does (task_of s rules made creds) (task_of s' rules' made' creds) [] []
@@ -105,9 +105,9 @@ module _ (number : ℕ) (ended : List ℕ) (j j' : List Batch) (h h' : List Entr
 
 -- a seat that had the pen, and has it no more, is a task
 pub task_published : {s s' : SeatValue Entry} {rules rules' : IndexValue} {rows rows' : ℕ} {creds : Creds}
-    → IsTask s rules rows creds → s'.number ≡ s.number → Rests s'.view → s'.view.numbers ≡ s.view.numbers
+    → IsTaskState s rules rows creds → s'.number ≡ s.number → Rests s'.view → s'.view.numbers ≡ s.view.numbers
     → s'.view.history ≡ s.view.history → StandsAt rules' rows' s'.view.journal → Begins s'.view.journal s.view.journal
-    → IsTask s' rules' rows' creds
+    → IsTaskState s' rules' rows' creds
 task_published {s} {s'} t number rests numbers history stands more =
     let seen : AreSeen s'.view.journal s'.view.history = subst (AreSeen s'.view.journal) (sym history)
     (seen_longer more t.seen) in
@@ -124,16 +124,16 @@ heard_seen v n x hears mine told = ⊎_elim
 
 module _ {s s' : SeatValue Entry} {rules : IndexValue} {rows : ℕ} {creds : Creds} where
   -- hearing another seat keeps what holds of a task
-  pub hears_task : {rules' : IndexValue} {rows' : ℕ} (n : View Entry) → IsTask s rules rows creds
+  pub hears_task : {rules' : IndexValue} {rows' : ℕ} (n : View Entry) → IsTaskState s rules rows creds
       → (s'.table ≡ s.table) × (s'.number ≡ s.number) → HearsView world_means s.view n s'.view
-      → AreSeen n.journal n.history → StandsAt rules' rows' s'.view.journal → IsTask s' rules' rows' creds
+      → AreSeen n.journal n.history → StandsAt rules' rows' s'.view.journal → IsTaskState s' rules' rows' creds
   hears_task n t same hears told stands =
       let seen = heard_seen s.view n s'.view hears t.seen told in
       let mine = subst (Has s.number) (sym t.numbered) here in
       task_with t n.numbers same.1 hears.numbers (hears.apart s.number mine) (hears.pen, hears.turn) stands seen
       (still_live t s' seen hears.journal hears.history (hears.entries s.number mine))
 
-  pub hears_does : (made : ℕ) (n : NoticeValue Entry) (told : ToldValue) → IsTask s rules rows creds
+  pub hears_does : (made : ℕ) (n : NoticeValue Entry) (told : ToldValue) → IsTaskState s rules rows creds
       → (s'.table ≡ s.table) × (s'.number ≡ s.number) → HearsView world_means s.view n.view s'.view → IsTold n
       → told.journal ≡ n.view.journal → told.history ≡ n.view.history
       → Hears (task_of s rules made creds) told (task_of s' rules made creds)
@@ -188,7 +188,7 @@ newer journal a b n is s t = (elim (nat_lt a.rules.version b.rules.version) as
 
 -- what a task that adopted another is
 pub adopts_does : {s c s' : SeatValue Entry} {rules rules_c rules' : IndexValue} {rows rows_c rows' : ℕ}
-    {creds creds_c : Creds} (made made_c : ℕ) → IsTask s rules rows creds → IsTask c rules_c rows_c creds_c
+    {creds creds_c : Creds} (made made_c : ℕ) → IsTaskState s rules rows creds → IsTaskState c rules_c rows_c creds_c
     → (s'.table ≡ s.table) × (s'.number ≡ s.number) → HearsView world_means s.view c.view s'.view
     → StandsAt rules' rows' s'.view.journal → rules.version ≤ rules'.version → rules_c.version ≤ rules'.version
     → (rules'.version ≡ rules.version) ⊎ (rules'.version ≡ rules_c.version)
@@ -229,9 +229,9 @@ first_seen = record { world = refl; steps = tt; versions = tt }
 -- what holds of the first task
 pub first_is_task : {s : SeatValue Entry} {rules : IndexValue} {rows : ℕ} {creds : Creds} (table : TableId)
     → s ≡ record { table = table; number = 0; view = opening_view }
-    → StandsFor rules [] → rows ≡ 0 → creds ≡ creds_first → IsTask s rules rows creds
+    → StandsFor rules [] → rows ≡ 0 → creds ≡ creds_first → IsTaskState s rules rows creds
 first_is_task {s} {rules} {rows} {creds} table is stands none same =
-    subst (λ (z : SeatValue Entry × Creds). IsTask z.0 rules rows z.1) (λ i. (sym is i, sym same i)) record {
+    subst (λ (z : SeatValue Entry × Creds). IsTaskState z.0 rules rows z.1) (λ i. (sym is i, sym same i)) record {
       rests = (refl, refl);
       stands = stands_first stands none;
       apart = λ h. elim h [ ];
@@ -243,7 +243,7 @@ first_is_task {s} {rules} {rows} {creds} table is stands none same =
     }
 
 -- a call that loads no row loads no more than it may
-pub loads_none : {s : SeatValue Entry} {rules : IndexValue} {rows : ℕ} {creds : Creds} → IsTask s rules rows creds
+pub loads_none : {s : SeatValue Entry} {rules : IndexValue} {rows : ℕ} {creds : Creds} → IsTaskState s rules rows creds
     → (n : ℕ) → n + version_rows s.view.journal rules.version ≤ n + rows_of s.view.journal
 loads_none t n =
     let rows = stands_rows t.stands in

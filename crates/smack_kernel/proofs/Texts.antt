@@ -26,7 +26,7 @@ use Rattle.world_spec.specs.declared.Call.{Call}
 use Rattle.rule_word.specs.Layout.{IsId, IsPackable}
 use Rattle.live_table.specs.Lists.{Has, here, there}
 use Rattle.smack_kernel.specs.Tasks.{TaskValue}
-use Rattle.smack_kernel.specs.Answers.{ArePackedOps, IsRefused, IsTextRefused, written_call, IsOwnWritten, IsWritten, TakesPen}
+use Rattle.smack_kernel.specs.Answers.{ArePackedOps, IsWriteRefused, IsTextRefused, written_call, IsOwnWritten, IsWritten, TakesPen}
 use Rattle.smack_kernel.specs.declared.kernel.Written.{Written}
 use Rattle.smack_kernel.specs.declared.kernel.Written.TheVariants as Written
 use Rattle.smack_kernel.proofs.Counts.{rules_few, subjects_few, labels_few}
@@ -249,7 +249,7 @@ module _ (table : List (List ℕ)) (few : length table ≤ 65535) where
 -- a refusal of a text is a refused call
 pub text_refused : (labels : List (List ℕ)) (v w : TaskValue) (name text : List ℕ) (version : ℕ) (fault : Refusal)
     → IsTextual fault
-    → compiled labels name text ≡ Err fault → IsTextRefused v w version → IsRefused labels v w name text version fault
+    → compiled labels name text ≡ Err fault → IsTextRefused v w version → IsWriteRefused labels v w name text version fault
 text_refused labels v w name text version Refusal.NoSuchFile t e r = (e, r)
 text_refused labels v w name text version Refusal.TooLong t e r = (e, r)
 text_refused labels v w name text version (Refusal.BadLine bad) t e r = (e, r)

@@ -22,14 +22,14 @@ use Rattle.live_table.proofs.Lists.{begins_self, begins_more, begins_trans, thos
 use Rattle.world_spec.specs.Replies.{child_of}
 use Rattle.smack_kernel.specs.Histories.{world_means}
 use Rattle.smack_kernel.specs.Indexes.{StandsAt}
-use Rattle.smack_kernel.specs.Growth.{Grows, Enters, entry_of}
+use Rattle.smack_kernel.specs.Growth.{Grows, Enters, told_entry}
 use Rattle.smack_kernel.specs.declared.turns.Entered.{Entered}
 use Rattle.smack_kernel.specs.declared.turns.Turned.{Turned}
 use Rattle.smack_kernel.specs.declared.turns.Turned.TheVariants as Turned
-use Rattle.smack_kernel.specs.Tasks.{AreSeen, IsTask, Stays, Calls, task_of}
+use Rattle.smack_kernel.specs.Tasks.{AreSeen, IsTaskState, Stays, Calls, task_of}
 use Rattle.smack_kernel.specs.Turns.{IsMade, IsTurned}
 use Rattle.smack_kernel.specs.Forks.{task_made}
-use Rattle.smack_kernel.specs.Answers.{is_fork}
+use Rattle.smack_kernel.specs.Answers.{is_fork_call}
 use Rattle.smack_kernel.proofs.Indexes.{stands_within}
 use Rattle.smack_kernel.proofs.Growing.{grows_by}
 use Rattle.smack_kernel.proofs.Worlds.{IsLive, are_seen, step_makes, next_plain, step_alive}
@@ -41,14 +41,14 @@ Outcome E = Result Turned E
 
 -- the entries that a call made
 abbrev pub entries_made : {E : Type 0} → ℕ → ℕ → Call → Outcome E → List Entry
-entries_made task seq call (Ok (Turned.Entry r)) = entry_of task seq call r.version r.checks r.reply ∷ []
+entries_made task seq call (Ok (Turned.Entry r)) = told_entry task seq call r.version r.checks r.reply ∷ []
 entries_made task seq call (Ok (Turned.TrailFull back)) = []
 entries_made task seq call (Err e) = []
 
 -- what a call makes of a world that stands over a journal
 module _ (journal : List Batch) (m m' : WorldValue) (task seq : ℕ) (call : Call) where
   made_entry : (r : Entered) → IsMade m m' (ruling journal) task seq call (Turned.Entry r)
-      → entry_of task seq call r.version r.checks r.reply ≡ stepping.entry_of m (ruling journal) task seq call
+      → told_entry task seq call r.version r.checks r.reply ≡ stepping.entry_of m (ruling journal) task seq call
   made_entry r h =
       let stepped = h.0 in
       λ i. record { task = task; seq = seq; call = call; version = h.1 i; checks = stepped.3 i; reply = stepped.4 i }
@@ -69,18 +69,18 @@ module _ (journal : List Batch) (m m' : WorldValue) (task seq : ℕ) (call : Cal
   alive_made (Err e) h none k low = subst (λ (z : WorldValue). k < length z.world.tasks) (sym none) low
 
   -- a call that is no fork makes no task
-  none_made : (r : Entered) → IsMade m m' (ruling journal) task seq call (Turned.Entry r) → is_fork call ≡ false
+  none_made : (r : Entered) → IsMade m m' (ruling journal) task seq call (Turned.Entry r) → is_fork_call call ≡ false
       → child_of r.reply ≡ None
   none_made r h plain = ap child_of h.0.4 ∙ next_plain _ _ _ _ (step_makes m.world (ruling journal) task call) plain
 
   pub plain_made : {E : Type 0} (r : Outcome E) → IfOk r (IsMade m m' (ruling journal) task seq call)
-      → is_fork call ≡ false → IfOk r (λ q. task_made q ≡ None)
+      → is_fork_call call ≡ false → IfOk r (λ q. task_made q ≡ None)
   plain_made (Ok (Turned.Entry r)) h plain = none_made r h plain
   plain_made (Ok (Turned.TrailFull back)) h plain = refl
   plain_made (Err e) h plain = tt
 
 -- a task takes the turn: it then has this view, and the machine is the world x
-module _ {s : SeatValue Entry} {rules : IndexValue} {rows : ℕ} {creds : Creds} (task : IsTask s rules rows creds)
+module _ {s : SeatValue Entry} {rules : IndexValue} {rows : ℕ} {creds : Creds} (task : IsTaskState s rules rows creds)
     (w : View Entry) (x : WorldValue) (t : Turns world_means s.view w x) where
   mine : Has s.number s.view.numbers
   mine = subst (Has s.number) (sym task.numbered) here
@@ -188,9 +188,9 @@ module _ {s : SeatValue Entry} {rules : IndexValue} {rows : ℕ} {creds : Creds}
 
 -- what a seat is that gave the turn back with a world that stands for what it has seen
 pub task_given : {s s' : SeatValue Entry} {rules rules' : IndexValue} {rows rows' : ℕ} {creds creds' : Creds}
-    (m' : WorldValue) → IsTask s rules rows creds → s'.number ≡ s.number → s'.view.numbers ≡ s.view.numbers → Rests s'.view
+    (m' : WorldValue) → IsTaskState s rules rows creds → s'.number ≡ s.number → s'.view.numbers ≡ s.view.numbers → Rests s'.view
     → StandsAt rules' rows' s'.view.journal → StandsOver s'.view.journal m'.trail m'.world → m'.trail ≡ s'.view.history
-    → IsLive m'.world s.number creds' → IsTask s' rules' rows' creds'
+    → IsLive m'.world s.number creds' → IsTaskState s' rules' rows' creds'
 task_given {s} {s'} {creds' = creds'} m' task number numbers rests stands over is live =
     task_same task number numbers (rests.0 ∙ sym task.rests.0, rests.1 ∙ sym task.rests.1) stands
     (subst (AreSeen s'.view.journal) is (are_seen over))
@@ -198,7 +198,7 @@ task_given {s} {s'} {creds' = creds'} m' task number numbers rests stands over i
 
 -- What a task and its turn come to, after the call was made and the turn was given back with it.
 module _ {s s' : SeatValue Entry} {rules rules' : IndexValue} {rows rows' : ℕ} {creds creds' : Creds}
-    (task : IsTask s rules rows creds) (task' : IsTask s' rules' rows' creds') (made : ℕ) (table : s'.table ≡ s.table)
+    (task : IsTaskState s rules rows creds) (task' : IsTaskState s' rules' rows' creds') (made : ℕ) (table : s'.table ≡ s.table)
     (number : s'.number ≡ s.number) (numbers : s'.view.numbers ≡ s.view.numbers)
     (ended_loads : s'.view.ended_loads ≡ s.view.ended_loads) (later : rules.version ≤ rules'.version)
   where
@@ -220,7 +220,7 @@ module _ {s s' : SeatValue Entry} {rules rules' : IndexValue} {rows rows' : ℕ}
 
     pub turn_calls : (call : Call) (r : Entered) → r.version ≡ rules'.version
         → Enters s.number (rest_of s.view.numbers) s.view.journal s'.view.journal s.view.history s'.view.history
-        (entry_of s.number (made + 1) call r.version r.checks r.reply) r.place
+        (told_entry s.number (made + 1) call r.version r.checks r.reply) r.place
         → Calls (task_of s rules made creds) (task_of s' rules' (made + 1) creds') call r
     turn_calls call r now enters = record {
       does = record {
@@ -240,7 +240,7 @@ module _ {s s' : SeatValue Entry} {rules rules' : IndexValue} {rows rows' : ℕ}
 
 -- the whole of a turn with a call that is no fork
 module _ {E : Type 0} {s s1 s3 : SeatValue Entry} {rules rules' : IndexValue} {rows rows' : ℕ} {creds creds' : Creds}
-    (task : IsTask s rules rows creds) (x m' : WorldValue) (t : Turns world_means s.view s1.view x) (made : ℕ) (call : Call)
+    (task : IsTaskState s rules rows creds) (x m' : WorldValue) (t : Turns world_means s.view s1.view x) (made : ℕ) (call : Call)
     (r : Result Turned (E × Call)) (same1 : (s1.table ≡ s.table) × (s1.number ≡ s.number))
     (same3 : (s3.table ≡ s1.table) × (s3.number ≡ s1.number))
     (is_made : IfOk r (IsMade x m' (ruling s1.view.journal) s.number (made + 1) call)) (none : OnErr r (m' ≡ x))
@@ -272,7 +272,7 @@ module _ {E : Type 0} {s s1 s3 : SeatValue Entry} {rules rules' : IndexValue} {r
     is_creds,
   )
 
-  pub task_turned : IsTask s3 rules' rows' creds'
+  pub task_turned : IsTaskState s3 rules' rows' creds'
   task_turned = task_given m' task number numbers
       (ap (λ (z : View Entry). z.pen) is ∙ (ap (λ (z : View Entry). z.pen) t.view ∙ task.rests.0), ap (λ (z : View Entry). z.turn) is)
       (subst (StandsAt rules' rows') (sym journal) index)
@@ -306,7 +306,7 @@ module _ {E : Type 0} {s s1 s3 : SeatValue Entry} {rules rules' : IndexValue} {r
       by (Ok (Turned.Entry e)) is_q =
           let m = subst (λ z. IfOk z (IsMade x m' (ruling s1.view.journal) s.number (made + 1) call)) is_q is_made in
           let all = subst (λ z. OnOk z (rules'.version ≡ length s1.view.journal)) is_q whole in
-          let entry = entry_of s.number (made + 1) call e.version e.checks e.reply in
+          let entry = told_entry s.number (made + 1) call e.version e.checks e.reply in
           let ends : s3.view.history ≡ s1.view.history ++ entry ∷ [] =
           history ∙ ap (λ z. s1.view.history ++ entries_made s.number (made + 1) call z) is_q in
           turn_calls task task_turned made table number numbers ended_loads later call e (m.1 ∙ sym all)

@@ -23,16 +23,16 @@ use Rattle.world_spec.specs.Questions.{asks}
 use Rattle.world_spec.specs.Steps.{Effect, Went, went, asked, verdict_of, task_left, tree_left, effect, stepped, step}
 use Rattle.world_spec.specs.Replies.{makes}
 use Rattle.world_spec.specs.Replays.{AreSteps, StandsOver, version_of, step_of, after_entry, replay_of}
-use Rattle.world_replays.proofs.Changes.{begins_none, length_after, answer_childless, change_childless}
-use Rattle.world_replays.proofs.Keeping.{others_keep}
-use Rattle.world_replays.proofs.Standing.{longer_stands}
+use Rattle.world_laws.proofs.Changes.{begins_none, length_after, answer_childless, change_childless}
+use Rattle.world_laws.proofs.Keeping.{others_keep}
+use Rattle.world_laws.proofs.Standing.{longer_stands}
 use Rattle.live_table.specs.Lists.{Begins}
 use Rattle.live_table.specs.Machines.{made, entries_by, makes as counts}
 use Rattle.live_table.proofs.Lists.{those-append}
 use Rattle.world_spec.specs.Replies.{child_of}
 use Rattle.smack_kernel.specs.Histories.{world_means}
 use Rattle.smack_kernel.specs.Tasks.{AreSeen}
-use Rattle.smack_kernel.specs.Answers.{is_fork}
+use Rattle.smack_kernel.specs.Answers.{is_fork_call}
 
 -- a reply that ends a call before its effect
 abbrev pub IsStop : Reply → Type 0
@@ -82,7 +82,7 @@ few_tasks n e = grind (arith, nat_tests)
 
 effect_makes : (w : World) (version : Ruling) (task : ℕ) (call : Call)
     → (went (verdict_of w version task) (asks w version task call)).stop ≡ None
-    → MakesNext (length w.tasks) (is_fork call) (child_of (effect w version task call).reply)
+    → MakesNext (length w.tasks) (is_fork_call call) (child_of (effect w version task call).reply)
     (length (effect w version task call).world.tasks)
 effect_makes w version task (Call.Task (TaskCall.Fork pid)) none =
     let full = Part.Refuses (nat_le most_tasks (length w.tasks)) (Why.TasksFull most_tasks) ∷ [] in
@@ -114,11 +114,11 @@ stepped_makes w fork e checks None stops makes = makes refl
 
 -- a step makes the next task, or none
 pub step_makes : (w : World) (version : Ruling) (task : ℕ) (call : Call)
-    → MakesNext (length w.tasks) (is_fork call) (child_of (step w version task call).reply)
+    → MakesNext (length w.tasks) (is_fork_call call) (child_of (step w version task call).reply)
     (length (step w version task call).world.tasks)
 step_makes w version task call =
     let through = went (verdict_of w version task) (asks w version task call) in
-    stepped_makes w (is_fork call) (effect w version task call) through.checks through.stop
+    stepped_makes w (is_fork_call call) (effect w version task call) through.checks through.stop
     (went_stops (verdict_of w version task) (asks w version task call)) (effect_makes w version task call)
 
 next_counts : (n : ℕ) (fork : Bool) (o : Option ℕ) (m : ℕ) → MakesNext n fork o m → m ≡ n + counts world_means o

@@ -48,18 +48,18 @@ IsAsked v w s o m (Asked.Verdict version verdict) =
 IsAsked v w s o m Asked.SeqFull = IsSeqFull v w
 
 -- whether the call is a fork
-abbrev pub is_fork : Call → Bool
-is_fork (Call.Task (TaskCall.Fork pid)) = true
-is_fork (Call.Task TaskCall.Exit) = false
-is_fork (Call.Task (TaskCall.Relabel l)) = false
-is_fork (Call.Task (TaskCall.DropCap cap)) = false
-is_fork (Call.Task (TaskCall.SelfRules rules)) = false
-is_fork (Call.Task (TaskCall.Relabels labels)) = false
-is_fork (Call.Task (TaskCall.Kill pid sig)) = false
-is_fork (Call.Task TaskCall.Take) = false
-is_fork (Call.Task (TaskCall.TraceRead pid)) = false
-is_fork (Call.Task (TaskCall.TraceAttach pid)) = false
-is_fork (Call.Tree call) = false
+abbrev pub is_fork_call : Call → Bool
+is_fork_call (Call.Task (TaskCall.Fork pid)) = true
+is_fork_call (Call.Task TaskCall.Exit) = false
+is_fork_call (Call.Task (TaskCall.Relabel l)) = false
+is_fork_call (Call.Task (TaskCall.DropCap cap)) = false
+is_fork_call (Call.Task (TaskCall.SelfRules rules)) = false
+is_fork_call (Call.Task (TaskCall.Relabels labels)) = false
+is_fork_call (Call.Task (TaskCall.Kill pid sig)) = false
+is_fork_call (Call.Task TaskCall.Take) = false
+is_fork_call (Call.Task (TaskCall.TraceRead pid)) = false
+is_fork_call (Call.Task (TaskCall.TraceAttach pid)) = false
+is_fork_call (Call.Tree call) = false
 
 -- the history has as many entries as it may, and the task makes none
 abbrev pub IsTrailFull : TaskValue → TaskValue → Type 0
@@ -122,15 +122,15 @@ IsTextRefused v w version = (w ≡ record v { made = v.made + 1 }) × (version �
 
 -- A text that does not become rules is refused for it. One that does is refused where CAP_MAC_ADMIN is not effective in
 -- the version that is seen with the pen, and else where the journal has no room.
-abbrev pub IsRefused : List (List ℕ) → TaskValue → TaskValue → List ℕ → List ℕ → ℕ → Refusal → Type 0
-IsRefused labels v w file text version Refusal.NotPrivileged =
+abbrev pub IsWriteRefused : List (List ℕ) → TaskValue → TaskValue → List ℕ → List ℕ → ℕ → Refusal → Type 0
+IsWriteRefused labels v w file text version Refusal.NotPrivileged =
     (ops : List RuleOp) × (compiled labels file text ≡ Ok (Compiled.Rules ops)) × Answers v w version
     × (is_effective v.creds Cap.MacAdmin (ruling w.journal) ≡ false)
-IsRefused labels v w file text version (Refusal.JournalFull rows) =
+IsWriteRefused labels v w file text version (Refusal.JournalFull rows) =
     (ops : List RuleOp) × (compiled labels file text ≡ Ok (Compiled.Rules ops)) × Answers v w version
     × (is_effective v.creds Cap.MacAdmin (ruling w.journal) ≡ true) × (rows ≡ rows_of w.journal)
     × (row_count < rows + length ops + 1)
-IsRefused labels v w file text version fault = (compiled labels file text ≡ Err fault) × IsTextRefused v w version
+IsWriteRefused labels v w file text version fault = (compiled labels file text ≡ Err fault) × IsTextRefused v w version
 
 -- the call that a text becomes which is written to a file of the writing task's own rules
 abbrev pub written_call : Result Compiled Refusal → Option Call
@@ -147,7 +147,7 @@ IsWritten labels v w file text (Written.Batch version) =
 IsWritten labels v w file text (Written.Entry r) =
     (v.made < most_calls) × ((call : Call) × (written_call (compiled labels file text) ≡ Some call) × Calls v w call r)
 IsWritten labels v w file text (Written.Refused version fault) =
-    (v.made < most_calls) × IsRefused labels v w file text version fault
+    (v.made < most_calls) × IsWriteRefused labels v w file text version fault
 IsWritten labels v w file text Written.TrailFull =
     IsTrailFull v w × ((call : Call) × (written_call (compiled labels file text) ≡ Some call))
 IsWritten labels v w file text Written.SeqFull = IsSeqFull v w
@@ -167,7 +167,7 @@ abbrev pub IsMarked : TaskValue → TaskValue → ℕ → Type 0
 IsMarked v w version = (v.made < most_calls) × (w ≡ record v { made = v.made + 1 }) × (version ≡ v.version)
 
 -- a whole task may close the kernel: its numbers are 0 and each task that an entry of theirs makes
-pub record IsWhole (v : TaskValue) : Type 0 where
+pub record IsWholeTask (v : TaskValue) : Type 0 where
   pub first : Has 0 (v.number ∷ v.ended)
   pub closed : (e : Entry) → Has e v.history → Has e.task (v.number ∷ v.ended) → (k : ℕ)
       → world_means.child e ≡ Some k → Has k (v.number ∷ v.ended)

@@ -44,8 +44,8 @@ pub record Publishes (number : ℕ) (ended : List ℕ) (j j' : List Batch) (h h'
   pub effective : is_effective creds Cap.MacAdmin (ruling before) ≡ true
   pub fits : rows_of before + length ops + 1 ≤ row_count
 
-abbrev pub entry_of : ℕ → ℕ → Call → ℕ → List Verdict → Reply → Entry
-entry_of task seq call version checks reply =
+abbrev pub told_entry : ℕ → ℕ → Call → ℕ → List Verdict → Reply → Entry
+told_entry task seq call version checks reply =
     record { task = task; seq = seq; call = call; version = version; checks = checks; reply = reply }
 
 -- One entry more, which ends the history: there was room for it. It is the step of its call in the world that the
@@ -70,11 +70,11 @@ pub record Enters (number : ℕ) (ended : List ℕ) (j j' : List Batch) (h h' : 
 
 -- What writes are judged by in a version: whether CAP_MAC_ADMIN is effective there, and then whether the journal has
 -- room for their batch.
-abbrev pub IsJudged : List Batch → Creds → List RuleOp → Published → Type 0
-IsJudged journal creds ops Published.Batch =
+abbrev pub IsBatchJudged : List Batch → Creds → List RuleOp → Published → Type 0
+IsBatchJudged journal creds ops Published.Batch =
     (is_effective creds Cap.MacAdmin (ruling journal) ≡ true) × (rows_of journal + length ops + 1 ≤ row_count)
-IsJudged journal creds ops Published.NotPrivileged = is_effective creds Cap.MacAdmin (ruling journal) ≡ false
-IsJudged journal creds ops (Published.JournalFull rows) =
+IsBatchJudged journal creds ops Published.NotPrivileged = is_effective creds Cap.MacAdmin (ruling journal) ≡ false
+IsBatchJudged journal creds ops (Published.JournalFull rows) =
     (is_effective creds Cap.MacAdmin (ruling journal) ≡ true) × (rows ≡ rows_of journal)
     × (row_count < rows + length ops + 1)
 
@@ -89,6 +89,6 @@ abbrev pub IsPublished : ℕ → List ℕ → List Batch → List Batch → List
     → Type 0
 IsPublished number ended j j' h h' batch creds Published.Batch = Publishes number ended j j' h h' batch.seq batch.ops creds
 IsPublished number ended j j' h h' batch creds Published.NotPrivileged =
-    Grows number ended j j' h h' [] [] × IsJudged j' creds batch.ops Published.NotPrivileged
+    Grows number ended j j' h h' [] [] × IsBatchJudged j' creds batch.ops Published.NotPrivileged
 IsPublished number ended j j' h h' batch creds (Published.JournalFull rows) =
-    Grows number ended j j' h h' [] [] × IsJudged j' creds batch.ops (Published.JournalFull rows)
+    Grows number ended j j' h h' [] [] × IsBatchJudged j' creds batch.ops (Published.JournalFull rows)

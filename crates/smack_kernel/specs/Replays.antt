@@ -2,7 +2,7 @@ use Rattle.std.specs.Prelude.{◌≤◌, List, [], ◌∷◌, length}
 use Rattle.std.specs.List.{AllByRecursion}
 use Rattle.rules_spec.specs.declared.Batch.{Batch}
 use Rattle.world_spec.specs.declared.Entry.{Entry}
-use Rattle.world_replays.proofs.Standing.{longer_stands}
+use Rattle.world_laws.proofs.Standing.{longer_stands}
 use Rattle.live_table.specs.Lists.{Has, here, there}
 use Rattle.live_table.specs.Machines.{IsLawful}
 use Rattle.smack_kernel.specs.Histories.{world_means}

@@ -14,7 +14,7 @@ use Rattle.live_table.specs.Seats.{SeatValue, NoticeValue, Rests}
 use Rattle.smack_kernel.specs.declared.turns.Entered.{Entered}
 use Rattle.smack_kernel.specs.Histories.{world_means}
 use Rattle.smack_kernel.specs.Indexes.{StandsAt, version_rows}
-use Rattle.smack_kernel.specs.Growth.{Grows, Enters, entry_of}
+use Rattle.smack_kernel.specs.Growth.{Grows, Enters, told_entry}
 
 -- a kernel as contracts see it: which it is, and its labels
 pub record KernelValue : Type 0 where
@@ -55,7 +55,7 @@ AreSeen journal history = StandsOver journal history (replay_of journal history)
 
 -- what holds of each task between its calls: its credentials are those that its number has in the world that the seen
 -- history leaves
-pub record IsTask (seat : SeatValue Entry) (rules : IndexValue) (rows : ℕ) (creds : Creds) : Type 0 where
+pub record IsTaskState (seat : SeatValue Entry) (rules : IndexValue) (rows : ℕ) (creds : Creds) : Type 0 where
   pub rests : Rests seat.view
   pub stands : StandsAt rules rows seat.view.journal
   pub apart : Has seat.number (rest_of seat.view.numbers) → ⊥
@@ -95,8 +95,8 @@ pub record IsSound (v : TaskValue) : Type 0 where
   pub seen : AreSeen v.journal v.history
 
 -- the task of a new kernel
-abbrev pub first_task : TableId → TaskValue
-first_task table = record {
+abbrev pub booted_task : TableId → TaskValue
+booted_task table = record {
   table = table;
   number = 0;
   made = 0;
@@ -138,7 +138,7 @@ pub record Answers (v w : TaskValue) (version : ℕ) : Type 0 where
 
 -- the entry of a task's next call, with what the call answers
 abbrev pub next_entry : TaskValue → Call → Entered → Entry
-next_entry v call r = entry_of v.number (v.made + 1) call r.version r.checks r.reply
+next_entry v call r = told_entry v.number (v.made + 1) call r.version r.checks r.reply
 
 -- An object call: one entry more. The task's credentials are those that the history then leaves it with, and its index
 -- stands for the version of the entry.

@@ -11,7 +11,7 @@ ghost use Rattle.world_spec.specs.Replies.{child_of};
 ghost use Rattle.live_table.specs.Seats.{SameCounts, with_loads};
 ghost use Rattle.smack_kernel.specs.Histories.{world_means};
 ghost use Rattle.smack_kernel.specs.Indexes.{StandsAt};
-ghost use Rattle.smack_kernel.specs.Tasks.{IsTask, Stays, task_of};
+ghost use Rattle.smack_kernel.specs.Tasks.{IsTaskState, Stays, task_of};
 ghost use Rattle.smack_kernel.specs.Turns.{IsMade};
 ghost use Rattle.smack_kernel.specs.Forks.{task_made, IsBranched, MayFork, Drew, Forks};
 
@@ -159,10 +159,10 @@ pub(crate) fn branch<R: Wait>(
     pid: Pid,
 ) -> Result<(Turned, Option<Task>), AllocError>
     requires table { seat.old.table ≡ table.now }
-    requires task { IsTask seat.old index.old.rules index.old.rows creds.old }
+    requires task { IsTaskState seat.old index.old.rules index.old.rows creds.old }
     requires few { made < 1048575 }
     ensures same { (seat.new.table ≡ seat.old.table) × (seat.new.number ≡ seat.old.number) }
-    ensures task { IsTask seat.new index.new.rules index.new.rows creds.new }
+    ensures task { IsTaskState seat.new index.new.rules index.new.rows creds.new }
     ensures branched { IfOk result (λ r. IsBranched (task_of seat.old index.old.rules made creds.old) (task_of seat.new index.new.rules made creds.new) pid r.0 r.1) }
     ensures stays { OnErr result (Stays (task_of seat.old index.old.rules made creds.old) (task_of seat.new index.new.rules made creds.new)) }
     ensures looks { seat.old.view.looks < seat.new.view.looks }

@@ -1,6 +1,6 @@
 ghost use Rattle.std.specs.Prelude.{◌≡◌, ◌<◌, ◌+◌, length, false, IfOk, IfErr, OnOk, OnErr};
-ghost use Rattle.smack_kernel.specs.Tasks.{first_task, most_calls, Stays, Hears, Adopts, Loads, LoadsOnce};
-ghost use Rattle.smack_kernel.specs.Answers.{ArePackedOps, IsAsked, is_fork, IsCalled, IsForked, IsOpsWritten, IsOwnWritten, IsWritten, TakesPen, IsMarked, IsSeqFull, IsWhole, Closes};
+ghost use Rattle.smack_kernel.specs.Tasks.{booted_task, most_calls, Stays, Hears, Adopts, Loads, LoadsOnce};
+ghost use Rattle.smack_kernel.specs.Answers.{ArePackedOps, IsAsked, is_fork_call, IsCalled, IsForked, IsOpsWritten, IsOwnWritten, IsWritten, TakesPen, IsMarked, IsSeqFull, IsWholeTask, Closes};
 
 use crate::closed::Closed;
 use crate::forks::branch;
@@ -26,7 +26,7 @@ use world_spec::{Call, TaskCall};
 const MOST_CALLS: u32 = 1_048_575;
 
 /// The answer to a question.
-#[derive(Clone, Copy, Debug, PartialEq, Eq)]
+#[derive(Clone, Copy, PartialEq, Eq)]
 pub enum Asked {
     /// The verdict of the ordered cases in this version.
     Verdict { version: u32, verdict: Verdict },
@@ -35,7 +35,7 @@ pub enum Asked {
 }
 
 /// What came of an object call.
-#[derive(Debug, Drop)]
+#[derive(Drop)]
 pub enum Called {
     /// The call is an entry of the history.
     Entry(Entered),
@@ -46,7 +46,7 @@ pub enum Called {
 }
 
 /// What came of a text that was written.
-#[derive(Debug, Drop)]
+#[derive(Drop)]
 pub enum Written {
     /// The writes are a batch, which makes this version.
     Batch { version: u32 },
@@ -62,7 +62,7 @@ pub enum Written {
 }
 
 /// The task has made 1,048,575 calls; nothing changed.
-#[derive(Clone, Copy, Debug, PartialEq, Eq)]
+#[derive(Clone, Copy, PartialEq, Eq)]
 pub struct SeqFull;
 
 /// The rules that tasks share, and the turn of the world.
@@ -84,7 +84,7 @@ impl Kernel {
     /// A kernel with these labels, and its first task, which has made no call. There are no rules.
     pub fn boot(alloc: Global, labels: Labels) -> Result<(Kernel, Task), AllocError>
         ensures labels { IfOk result (λ r. r.0.labels ≡ labels) }
-        ensures task { IfOk result (λ r. r.1 ≡ first_task r.0.table) }
+        ensures task { IfOk result (λ r. r.1 ≡ booted_task r.0.table) }
     {
         let index = Index::new(alloc)?;
         let (table, seat) = LiveTable::new(alloc, WorldMachine::new(alloc)?)?;
@@ -164,7 +164,7 @@ impl Kernel {
         call: Call,
     ) -> Result<Called, (AllocError, Call)>
         requires table { task.old.table ≡ self.now.table }
-        requires plain { is_fork call ≡ false }
+        requires plain { is_fork_call call ≡ false }
         ensures same { (task.new.table ≡ task.old.table) × (task.new.number ≡ task.old.number) }
         ensures called { IfOk result (IsCalled task.old task.new call) }
         ensures back { IfErr result (λ e. (e.1 ≡ call) × Stays task.old task.new) }
@@ -346,7 +346,7 @@ impl Kernel {
         call: TaskCall,
     ) -> Result<Written, AllocError>
         requires table { task.old.table ≡ self.now.table }
-        requires plain { is_fork (Call.Task call) ≡ false }
+        requires plain { is_fork_call (Call.Task call) ≡ false }
         ensures same { (task.new.table ≡ task.old.table) × (task.new.number ≡ task.old.number) }
         ensures written { IfOk result (IsOwnWritten task.old task.new (Call.Task call)) }
         ensures stays { OnErr result (Stays task.old task.new) }
@@ -420,7 +420,7 @@ impl Kernel {
     /// want of memory kernel and task come back as they were, but for the rows that were loaded.
     pub fn close(self, alloc: Global, task: Task) -> Result<Closed, (AllocError, Kernel, Task)>
         requires table { task.table ≡ self.table }
-        requires whole { IsWhole task }
+        requires whole { IsWholeTask task }
         ensures closed { IfOk result (Closes self.labels task) }
         ensures back { IfErr result (λ e. (e.1 ≡ self) × (e.2 ≡ record task { loads = e.2.loads })) }
     {

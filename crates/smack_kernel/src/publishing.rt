@@ -6,7 +6,7 @@ ghost use Rattle.live_table.specs.Batches.{IsPacked, rows_of};
 ghost use Rattle.live_table.specs.Core.{row_count};
 ghost use Rattle.live_table.specs.Seats.{Rests, with_loads};
 ghost use Rattle.smack_kernel.specs.Indexes.{StandsAt};
-ghost use Rattle.smack_kernel.specs.Growth.{Grows, IsJudged, IsPublished, journal_after};
+ghost use Rattle.smack_kernel.specs.Growth.{Grows, IsBatchJudged, IsPublished, journal_after};
 
 use crate::index::{Index, read_up};
 use crate::world_machine::WorldMachine;
@@ -20,7 +20,7 @@ use std::sync::Wait;
 use task_creds::Cred;
 
 /// What came of writes.
-#[derive(Clone, Copy, Debug, PartialEq, Eq)]
+#[derive(Clone, Copy, PartialEq, Eq)]
 pub(crate) enum Published {
     /// They are a batch of the journal.
     Batch,
@@ -88,7 +88,7 @@ fn judge(
     requires stands { StandsAt index.old.rules index.old.rows seat.old.view.journal }
     requires short { length batch.now.ops < 65536 }
     ensures same { seat.new ≡ with_loads seat.new.view.loads seat.old }
-    ensures judged { IfOk result (IsJudged seat.old.view.journal creds.now batch.now.ops) }
+    ensures judged { IfOk result (IsBatchJudged seat.old.view.journal creds.now batch.now.ops) }
     ensures stands { IfOk result (λ p. StandsAt index.new.rules index.new.rows (journal_after seat.old.view.journal batch.now p)) }
     ensures whole { IfOk result (λ p. index.new.rules.version ≡ length (journal_after seat.old.view.journal batch.now p)) }
     ensures later { index.old.rules.version ≤ index.new.rules.version }

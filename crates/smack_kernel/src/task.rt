@@ -19,13 +19,13 @@ pub struct Task {
 
 impl Model for Task {
     ghost use Rattle.std.specs.Prelude.{◌≤◌};
-    ghost use Rattle.smack_kernel.specs.Tasks.{TaskValue, IsTask, task_of, most_calls};
+    ghost use Rattle.smack_kernel.specs.Tasks.{TaskValue, IsTaskState, task_of, most_calls};
 
     ghost Value = { TaskValue };
 
     ghost view = { λ t. task_of t.seat t.index.rules t.made t.creds };
 
-    ghost invariant = { λ t. IsTask t.seat t.index.rules t.index.rows t.creds × (t.made ≤ most_calls) };
+    ghost invariant = { λ t. IsTaskState t.seat t.index.rules t.index.rows t.creds × (t.made ≤ most_calls) };
 }
 
 impl Task {

@@ -8,9 +8,9 @@ ghost use Rattle.world_spec.specs.Replays.{StandsOver};
 ghost use Rattle.live_table.specs.Batches.{rows_of};
 ghost use Rattle.live_table.specs.Seats.{with_loads};
 ghost use Rattle.smack_kernel.specs.Indexes.{StandsAt};
-ghost use Rattle.smack_kernel.specs.Tasks.{IsTask, Stays, task_of};
+ghost use Rattle.smack_kernel.specs.Tasks.{IsTaskState, Stays, task_of};
 ghost use Rattle.smack_kernel.specs.Turns.{IsMade, IsTurned};
-ghost use Rattle.smack_kernel.specs.Answers.{is_fork};
+ghost use Rattle.smack_kernel.specs.Answers.{is_fork_call};
 
 use crate::creds::{prepare, take_over};
 use crate::index::{Index, read_up};
@@ -25,7 +25,7 @@ use task_creds::Cred;
 use world_spec::{Call, Reply};
 
 /// An entry of the history, as its caller is told of it.
-#[derive(Debug, Drop)]
+#[derive(Drop)]
 pub struct Entered {
     /// The place of the entry in the history, counted from 1.
     pub place: u32,
@@ -38,7 +38,7 @@ pub struct Entered {
 }
 
 /// What came of a call in a turn.
-#[derive(Debug, Drop)]
+#[derive(Drop)]
 pub(crate) enum Turned {
     /// The call is an entry of the history.
     Entry(Entered),
@@ -146,11 +146,11 @@ pub(crate) fn enter<R: Wait>(
     call: Call,
 ) -> Result<Turned, (AllocError, Call)>
     requires table { seat.old.table ≡ table.now }
-    requires task { IsTask seat.old index.old.rules index.old.rows creds.old }
+    requires task { IsTaskState seat.old index.old.rules index.old.rows creds.old }
     requires few { made < 1048575 }
-    requires plain { is_fork call ≡ false }
+    requires plain { is_fork_call call ≡ false }
     ensures same { (seat.new.table ≡ seat.old.table) × (seat.new.number ≡ seat.old.number) }
-    ensures task { IsTask seat.new index.new.rules index.new.rows creds.new }
+    ensures task { IsTaskState seat.new index.new.rules index.new.rows creds.new }
     ensures turned { IfOk result (IsTurned (task_of seat.old index.old.rules made creds.old) (task_of seat.new index.new.rules made creds.new) call) }
     ensures back { IfErr result (λ e. (e.1 ≡ call)
         × Stays (task_of seat.old index.old.rules made creds.old) (task_of seat.new index.new.rules made creds.new)) }

@@ -15,7 +15,7 @@ use Rattle.script_text.specs.Scripts.{Fails}
 use Rattle.smack_program.specs.declared.status.Status.{Status}
 use Rattle.smack_program.specs.declared.status.Status.TheVariants as Status
 use Rattle.smack_program.specs.Statuses.{status_of, read_status, due_status, is_refusal, may_have_written}
-use Rattle.smack_program.specs.Parts.{IsRead, IsUnread, IsWritten, IsUnwritten}
+use Rattle.smack_program.specs.Parts.{IsRead, IsUnread, IsTextWritten, IsUnwritten}
 use Rattle.smack_program.specs.Scripts.{IsNoScript, ScriptEnds}
 use Rattle.smack_program.proofs.FewBytes.{few_bytes}
 
@@ -173,7 +173,7 @@ no_script_ends answers source source' sink bytes ScriptFault.Memory read e refus
 
 -- an answer was written
 pub written_ends : (answers : List ℕ → Result (List ℕ) Status → Type 0) (source source' sink sink' : Seen) (bytes text : List ℕ)
-    → IsRead source source' bytes → answers bytes (Ok text) → due_status bytes ≡ Status.Done → IsWritten text sink sink'
+    → IsRead source source' bytes → answers bytes (Ok text) → due_status bytes ≡ Status.Done → IsTextWritten text sink sink'
     → ScriptEnds answers source source' sink sink' Status.Done
 written_ends answers source source' sink sink' bytes text read answer due written = record {
   front = (bytes, read.took);

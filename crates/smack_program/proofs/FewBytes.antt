@@ -10,12 +10,12 @@ use Rattle.script_spec.specs.declared.ScriptFault.TheVariants as ScriptFault
 use Rattle.script_spec.specs.Lines.{ScriptLine, table_of, rows_in}
 use Rattle.script_spec.specs.Tasks.{tasks_of, task_names}
 use Rattle.script_spec.specs.Causes.{line_cause}
-use Rattle.script_spec.specs.Grammar.{Item, parse, calls_of, call_of, items, first_of, fault_if, unless_fault, has_text, most_bytes, most_lines, most_tasks, most_text, most_rows, most_labels}
+use Rattle.script_spec.specs.Grammar.{Item, parse, calls_of, call_of, items, first_script_fault, fault_if, unless_script_fault, has_text, most_bytes, most_lines, most_script_tasks, most_text, most_rows, most_labels}
 
 -- no item exceeds the limit of bytes
 item_few : (lines : Bool) (cause : Option Cause) (tasks text rows labels : Bool) (line : ℕ) (more : Result (List ScriptLine) ScriptFault)
-    → unless_fault
-    (first_of
+    → unless_script_fault
+    (first_script_fault
     (fault_if lines (ScriptFault.TooLarge What.Lines) ∷ option_map (λ w. ScriptFault.Malformed line w) cause ∷ fault_if tasks (ScriptFault.TooLarge What.Tasks) ∷ fault_if text (ScriptFault.TooLarge What.Text)
     ∷ fault_if rows (ScriptFault.TooLarge What.Rows) ∷ fault_if labels (ScriptFault.TooLarge What.Labels) ∷ [])) more ≡ Err (ScriptFault.TooLarge What.Bytes)
     → more ≡ Err (ScriptFault.TooLarge What.Bytes)
@@ -27,7 +27,7 @@ item_few false None false false true labels line more e = cc
 item_few false None false false false true line more e = cc
 item_few false None false false false false line more e = e
 
-ends_few : (lines : Bool) (above : List ScriptLine) → unless_fault (fault_if lines (ScriptFault.TooLarge What.Lines)) (Ok above) ≡ Err (ScriptFault.TooLarge What.Bytes) → ⊥
+ends_few : (lines : Bool) (above : List ScriptLine) → unless_script_fault (fault_if lines (ScriptFault.TooLarge What.Lines)) (Ok above) ≡ Err (ScriptFault.TooLarge What.Bytes) → ⊥
 ends_few true above e = cc
 ends_few false above e = cc
 
@@ -37,7 +37,7 @@ calls_few lines above (i ∷ is) e =
     let call : ScriptLine = call_of above i in
     let now : List ScriptLine = above ++ call ∷ [] in
     calls_few lines now is
-    (item_few (nat_lt most_lines i.line) (line_cause (tasks_of above) i.words (has_text i)) (nat_lt most_tasks (length (task_names now)))
+    (item_few (nat_lt most_lines i.line) (line_cause (tasks_of above) i.words (has_text i)) (nat_lt most_script_tasks (length (task_names now)))
     (nat_lt most_text (length call.text.bytes)) (nat_lt most_rows (rows_in now)) (nat_lt most_labels (length (table_of now))) i.line
     (calls_of (fault_if lines (ScriptFault.TooLarge What.Lines)) now is) e)
 

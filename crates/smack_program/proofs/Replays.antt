@@ -8,7 +8,7 @@ use Rattle.record_spec.specs.Show.{show}
 use Rattle.smack_program.specs.declared.status.Status.{Status}
 use Rattle.smack_program.specs.declared.status.Status.TheVariants as Status
 use Rattle.smack_program.specs.Statuses.{status_of, read_status, due_status}
-use Rattle.smack_program.specs.Parts.{IsRead, IsUnread, IsWritten, IsUnwritten}
+use Rattle.smack_program.specs.Parts.{IsRead, IsUnread, IsTextWritten, IsUnwritten}
 use Rattle.smack_program.specs.Replay.{IsReplay, replay_answers, ReplayEnds}
 use Rattle.smack_program.proofs.Endings.{unread_ends, no_script_ends, written_ends, unwritten_ends}
 
@@ -25,7 +25,7 @@ replay_refused source source' sink bytes f read fails =
     no_script_ends replay_answers source source' sink bytes f read fails (λ status is. is)
 
 pub replay_written : (source source' sink sink' : Seen) (bytes : List ℕ) (r : RunRecord) → IsRead source source' bytes
-    → IsReplay bytes r → IsWritten (show r) sink sink' → ReplayEnds source source' sink sink' Status.Done
+    → IsReplay bytes r → IsTextWritten (show r) sink sink' → ReplayEnds source source' sink sink' Status.Done
 replay_written source source' sink sink' bytes r read is written =
     written_ends replay_answers source source' sink sink' bytes (show r) read (r, is, refl) (due bytes r is) written
 

@@ -12,7 +12,7 @@ use Rattle.smack_kernel.specs.Answers.{ClosedValue}
 use Rattle.smack_program.specs.declared.status.Status.{Status}
 use Rattle.smack_program.specs.declared.status.Status.TheVariants as Status
 use Rattle.smack_program.specs.Statuses.{status_of, read_status, due_status}
-use Rattle.smack_program.specs.Parts.{IsRead, IsUnread, IsWritten, IsUnwritten}
+use Rattle.smack_program.specs.Parts.{IsRead, IsUnread, IsTextWritten, IsUnwritten}
 use Rattle.smack_program.specs.Scripts.{ScriptEnds}
 use Rattle.smack_program.specs.Run.{IsRun, run_answers, RunEnds}
 use Rattle.smack_program.proofs.Endings.{unread_ends, no_script_ends, written_ends, unwritten_ends}
@@ -59,7 +59,7 @@ run_refused source source' sink bytes f read fails =
     (no_script_ends (run_answers None) source source' sink bytes f read fails (λ status is. is))
 
 pub run_written : (source source' sink sink' : Seen) (bytes : List ℕ) (r : RunRecord) (closed : ClosedValue)
-    → IsRead source source' bytes → IsRun (Some closed) bytes r → IsWritten (show r) sink sink'
+    → IsRead source source' bytes → IsRun (Some closed) bytes r → IsTextWritten (show r) sink sink'
     → RunEnds (Some closed) source source' sink sink' Status.Done
 run_written source source' sink sink' bytes r closed read is written = record {
   ends = written_ends (run_answers (Some closed)) source source' sink sink' bytes (show r) read (r, is, refl)

@@ -27,8 +27,8 @@ IsCutShort answers source source' sink sink' = (bytes text : List ℕ) × WasRea
     × AppendsFront sink.bytes sink'.bytes text
 
 -- the source was read to its end, and the bytes read are refused with this status
-abbrev pub IsRefused : (List ℕ → Result (List ℕ) Status → Type 0) → Seen → Seen → Status → Type 0
-IsRefused answers source source' status = (bytes : List ℕ) × WasRead source source' bytes × answers bytes (Err status)
+abbrev pub IsInputRefused : (List ℕ → Result (List ℕ) Status → Type 0) → Seen → Seen → Status → Type 0
+IsInputRefused answers source source' status = (bytes : List ℕ) × WasRead source source' bytes × answers bytes (Err status)
 
 -- these bytes stood in the source, and neither the source nor the sink failed
 pub record IsCalm (bytes : List ℕ) (source source' sink sink' : Seen) : Type 0 where
@@ -45,7 +45,7 @@ pub record CommandEnds (answers : List ℕ → Result (List ℕ) Status → Type
   -- the source was read to its end, and an answer to the bytes read was written
   pub done : status ≡ Status.Done → IsAnswered answers source source' sink sink'
   -- the source was read to its end, and the bytes read are refused with this status
-  pub refused : IsTrue (is_refusal status) → IsRefused answers source source' status
+  pub refused : IsTrue (is_refusal status) → IsInputRefused answers source source' status
   -- too many bytes come exactly where more were taken than may be
   pub large : status ≡ Status.TooLarge What.Bytes → IfSome (taken_count source.bytes source'.bytes) (λ n. most < n)
   pub exceeded : IsSomeAnd (taken_count source.bytes source'.bytes) (λ n. most < n) → (status ≡ Status.TooLarge What.Bytes) ⊎ (status ≡ Status.OutOfMemory)

@@ -6,8 +6,8 @@ use Rattle.script_spec.specs.declared.What.TheVariants as What
 use Rattle.smack_program.specs.declared.status.Status.{Status}
 use Rattle.smack_program.specs.declared.status.Status.TheVariants as Status
 
-abbrev pub feed : List ℕ
-feed = 10 ∷ []
+abbrev pub line_end : List ℕ
+line_end = 10 ∷ []
 
 -- why a line is bad
 abbrev pub cause_text : Cause → List ℕ
@@ -32,9 +32,9 @@ limit_text What.Rows = codes "rows"
 -- the line that tells a status on standard error; Done has none
 abbrev pub error_text : Status → List ℕ
 error_text Status.Done = []
-error_text Status.Usage = codes "smack: usage" ++ feed
-error_text (Status.Malformed line cause) = codes "smack: line " ++ decimal line ++ codes ": " ++ cause_text cause ++ feed
-error_text Status.ReadFault = codes "smack: read fault" ++ feed
-error_text Status.WriteFault = codes "smack: write fault" ++ feed
-error_text Status.OutOfMemory = codes "smack: out of memory" ++ feed
-error_text (Status.TooLarge what) = codes "smack: too large: " ++ limit_text what ++ feed
+error_text Status.Usage = codes "smack: usage" ++ line_end
+error_text (Status.Malformed line cause) = codes "smack: line " ++ decimal line ++ codes ": " ++ cause_text cause ++ line_end
+error_text Status.ReadFault = codes "smack: read fault" ++ line_end
+error_text Status.WriteFault = codes "smack: write fault" ++ line_end
+error_text Status.OutOfMemory = codes "smack: out of memory" ++ line_end
+error_text (Status.TooLarge what) = codes "smack: too large: " ++ limit_text what ++ line_end

@@ -26,7 +26,7 @@ pub record IsUnread (source source' : Seen) (status : Status) : Type 0 where
   pub read : AreTold source.faults source'.faults (status ≡ Status.ReadFault)
 
 -- the sink took this text, and did not fail
-pub record IsWritten (text : List ℕ) (sink sink' : Seen) : Type 0 where
+pub record IsTextWritten (text : List ℕ) (sink sink' : Seen) : Type 0 where
   pub all : Appends sink.bytes sink'.bytes text
   pub same : sink'.faults ≡ sink.faults
 

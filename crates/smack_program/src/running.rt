@@ -20,7 +20,7 @@ use std::sync::Wait;
 use std::thread::Threads;
 
 /// The end of the program.
-#[derive(Debug, Drop)]
+#[derive(Drop)]
 pub struct Ending {
     /// The exit status.
     pub code: u8,

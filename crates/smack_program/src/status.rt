@@ -4,7 +4,7 @@ ghost use Rattle.smack_program.specs.Statuses.{status_of, code_of};
 use script_text::{Cause, ScriptFault, What};
 
 /// How the program ended.
-#[derive(Clone, Copy, Debug, PartialEq, Eq)]
+#[derive(Clone, Copy, PartialEq, Eq)]
 pub enum Status {
     /// All was read, run and written.
     Done,

@@ -1,7 +1,7 @@
 ghost use Rattle.std.specs.Prelude.{◌≡◌, ◌≢◌, ◌≤◌, ◌++◌, Err, OnOk, OnErr, decimal};
 ghost use Rattle.outside.specs.Faults.{Rose};
 ghost use Rattle.outside.specs.Sink.{Appends, AppendsFront};
-ghost use Rattle.smack_program.specs.Errors.{feed, cause_text, error_text};
+ghost use Rattle.smack_program.specs.Errors.{line_end, cause_text, error_text};
 
 use crate::status::Status;
 use itoa::Buffer;
@@ -46,8 +46,8 @@ fn put_numbered<E: Sink>(errors: &mut E, text: &[u8], n: u32, rest: &[u8]) -> Re
 
 /// Offers why a line of a script is bad, and a line feed.
 fn put_cause<E: Sink>(errors: &mut E, cause: Cause) -> Result<(), SinkFault>
-    ensures ok { OnOk result (Appends (E.taken errors.old) (E.taken errors.new) (cause_text cause ++ feed)) }
-    ensures err { OnErr result (AppendsFront (E.taken errors.old) (E.taken errors.new) (cause_text cause ++ feed)) }
+    ensures ok { OnOk result (Appends (E.taken errors.old) (E.taken errors.new) (cause_text cause ++ line_end)) }
+    ensures err { OnErr result (AppendsFront (E.taken errors.old) (E.taken errors.new) (cause_text cause ++ line_end)) }
     ensures later { E.faults errors.old ≤ E.faults errors.new }
     ensures failed { result ≡ Err SinkFault.Failed → Rose (E.faults errors.old) (E.faults errors.new) }
     ensures told { result ≢ Err SinkFault.Failed → E.faults errors.new ≡ E.faults errors.old }

@@ -2,7 +2,7 @@ ghost use Rattle.std.specs.Prelude.{◌≡◌, [], OnOk, IfErr};
 ghost use Rattle.outside.specs.Seen.{seen};
 ghost use Rattle.run_report.specs.Put.{IsPut};
 ghost use Rattle.record_spec.specs.Show.{show};
-ghost use Rattle.smack_program.specs.Parts.{IsWritten, IsUnwritten};
+ghost use Rattle.smack_program.specs.Parts.{IsTextWritten, IsUnwritten};
 
 use crate::status::Status;
 use outside::{Sink, SinkFault};
@@ -26,7 +26,7 @@ fn put_whole<K: Sink>(alloc: Global, r: &RunRecord, sink: &mut K) -> Result<(), 
 /// Writes the text of a record, and keeps none of it back; or the status of a text that was not
 /// written whole.
 pub fn write_record<K: Sink>(alloc: Global, r: &RunRecord, sink: &mut K) -> Result<(), Status>
-    ensures written { OnOk result (IsWritten (show r.now) (seen K.taken K.faults sink.old) (seen K.taken K.faults sink.new)) }
+    ensures written { OnOk result (IsTextWritten (show r.now) (seen K.taken K.faults sink.old) (seen K.taken K.faults sink.new)) }
     ensures handed_on { OnOk result (K.kept sink.new ≡ []) }
     ensures unwritten { IfErr result (IsUnwritten (show r.now) (seen K.taken K.faults sink.old) (seen K.taken K.faults sink.new)) }
 {

@@ -22,8 +22,8 @@ entry_of before version task seq call = let s = step before.world version task c
     record { task = task; seq = seq; call = call; version = version.number; checks = s.checks; reply = s.reply }
 
 -- the world steps, and one entry comes last in the trail
-abbrev pub entered : WorldValue → Ruling → ℕ → ℕ → Call → WorldValue
-entered before version task seq call = record {
+abbrev pub with_entry : WorldValue → Ruling → ℕ → ℕ → Call → WorldValue
+with_entry before version task seq call = record {
   world = (step before.world version task call).world;
   trail = before.trail ++ entry_of before version task seq call ∷ [];
 }
@@ -32,7 +32,7 @@ entered before version task seq call = record {
 -- that nothing was done, with the call.
 abbrev pub IsStepped : WorldValue → WorldValue → Ruling → ℕ → ℕ → Call → Stepped → Type 0
 IsStepped before after version task seq call (Stepped.Entered place checks reply) =
-    (length before.trail < most_entries) × (after ≡ entered before version task seq call)
+    (length before.trail < most_entries) × (after ≡ with_entry before version task seq call)
     × (place ≡ length before.trail + 1) × (checks ≡ (step before.world version task call).checks)
     × (reply ≡ (step before.world version task call).reply)
 IsStepped before after version task seq call (Stepped.TrailFull back) =

@@ -17,7 +17,7 @@ use world_spec::{Call, Reply, Why};
 use world_state::{Caller, Judgement, State};
 
 /// What a caller is told of a call: the verdicts that were asked, and the reply.
-#[derive(Debug, Drop)]
+#[derive(Drop)]
 pub(crate) struct Told {
     pub(crate) checks: Checks,
     pub(crate) reply: Reply,

@@ -39,7 +39,7 @@ impl Model for World {
 }
 
 /// What a step came to.
-#[derive(Debug, Drop)]
+#[derive(Drop)]
 pub enum Stepped {
     /// The call was taken: the place of its entry in the trail, counted from 1, and the checks and
     /// the reply of the entry once more.

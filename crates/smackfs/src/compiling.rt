@@ -4,7 +4,7 @@ ghost use Rattle.text_spec.specs.Names.{id_of};
 ghost use Rattle.file_spec.specs.Writes.{rule_file as rule_file_of_name, self_file as self_file_of_name, file_of as file_of_name, read_as as is_read_as, line_of, writes_of_text};
 ghost use Rattle.file_spec.specs.Files.{op_of, ops_of, ops_of_writes, pair_set, label_added, becomes, compiled};
 ghost use Rattle.smackfs.specs.Gives.{Gives, Compiles};
-ghost use Rattle.smackfs.specs.Named.{named, both};
+ghost use Rattle.smackfs.specs.Named.{named_write, both};
 
 use crate::named_op::NamedOp;
 use crate::text_writes::{WritesFault, line_at, read_writes};
@@ -13,16 +13,13 @@ use label_table::Labels;
 use rule_text::Part;
 use smack_base::{Ids, LabelId, Pair, Pairs, RuleOp, RuleOps};
 use std::alloc::{AllocError, Global};
-use thiserror::Error;
 
 /// Why a text was not compiled.
-#[derive(Clone, Copy, Debug, PartialEq, Eq, Error)]
+#[derive(Clone, Copy, PartialEq, Eq)]
 pub enum TextFault {
     /// The text is refused.
-    #[error("the text is refused")]
     Refused(Refusal),
     /// Want of memory.
-    #[error("out of memory")]
     Memory,
 }
 
@@ -114,7 +111,7 @@ fn pair_in(labels: &Labels, s: Part<'_>, o: Part<'_>) -> Option<(LabelId, LabelI
 /// The write by the ids of its labels, or the refusal where the table lacks one.
 fn op_in(labels: &Labels, text: &[u8], op: NamedOp<'_>) -> Result<RuleOp, Refusal>
     requires { length text.now ≤ 65536 }
-    ensures { result ≡ op_of labels.now text.now (named op.entry) }
+    ensures { result ≡ op_of labels.now text.now (named_write op.entry) }
 {
     match op {
         NamedOp::Set { s, o, m } => match pair_in(labels, s, o) {
@@ -152,7 +149,7 @@ fn ops_in(
     writes: &[NamedOp<'_>],
 ) -> Result<RuleOps, TextFault>
     requires { length text.now ≤ 65536 }
-    ensures { Gives result (ops_of labels.now text.now (map named writes.now)) }
+    ensures { Gives result (ops_of labels.now text.now (map named_write writes.now)) }
 {
     let mut ops = RuleOps::new(alloc);
     if ops.reserve(writes.len()).is_err() {

@@ -2,7 +2,7 @@ use rule_text::Part;
 use smack_base::{Modes, Sequence};
 
 /// A write to rules or settings as a text spells it: its labels are parts of the text.
-#[derive(Clone, Copy, Debug)]
+#[derive(Clone, Copy)]
 pub enum NamedOp<'a> {
     /// The rule of a pair has these modes.
     Set {

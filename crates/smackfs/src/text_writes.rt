@@ -5,7 +5,7 @@ ghost use Rattle.rule_text.specs.Parts.{placed};
 ghost use Rattle.rule_text.specs.RuleAnswers.{fields_of};
 ghost use Rattle.rule_text.specs.LabelAnswers.{seen_word, IsGoodLabel};
 ghost use Rattle.file_spec.specs.Writes.{NamedRevoke, NamedAdd, NamedAmbient, NamedPtrace, NamedLogging, on_good, set_write, change_write, modes_or_none as modes_of_field, label_in as label_of_text, digit_in as digit_of_word, number_in as number_of_text, line_of, write_answers, writes_of_text};
-ghost use Rattle.smackfs.specs.Named.{named, seen_op, HasGoodNames, IsGoodOp, Answers};
+ghost use Rattle.smackfs.specs.Named.{named_write, seen_op, HasGoodNames, IsGoodOp, IsNextAnswer};
 ghost use Rattle.smackfs.specs.Gives.{IsBadText};
 ghost use Rattle.smackfs.specs.Left.{left, list_left, IsGoodReader};
 
@@ -19,14 +19,14 @@ use std::alloc::Global;
 use std::marker::Model;
 
 /// The writes of the list of `onlycap`: first it is cleared, if it was not, and then come the labels.
-#[derive(Debug, Drop)]
+#[derive(Drop)]
 struct ListWrites<'a> {
     cleared: bool,
     labels: LabelWords<'a>,
 }
 
 /// The readers of the files.
-#[derive(Debug, Drop)]
+#[derive(Drop)]
 enum Reader<'a> {
     Sets(RuleLines<'a>),
     Changes(RuleLines<'a>),
@@ -38,7 +38,7 @@ enum Reader<'a> {
 
 /// The writes that a text spells for a file, in order, up to the first bad line. A contract sees
 /// the answers that are still to come.
-#[derive(Debug, Drop)]
+#[derive(Drop)]
 pub struct TextWrites<'a> {
     reader: Reader<'a>,
 }
@@ -57,7 +57,7 @@ impl<'a> Model for TextWrites<'a> {
 }
 
 fn set_of<'a>(line: RuleLine<'a>) -> NamedOp<'a>
-    ensures { named result ≡ set_write (fields_of line.entry) }
+    ensures { named_write result ≡ set_write (fields_of line.entry) }
 {
     NamedOp::Set {
         s: line.subject,
@@ -77,7 +77,7 @@ fn modes_or_none(field: Option<Part<'_>>) -> Modes
 }
 
 fn change_of<'a>(line: RuleLine<'a>) -> NamedOp<'a>
-    ensures { named result ≡ change_write (fields_of line.entry) }
+    ensures { named_write result ≡ change_write (fields_of line.entry) }
 {
     NamedOp::Change {
         s: line.subject,
@@ -88,7 +88,7 @@ fn change_of<'a>(line: RuleLine<'a>) -> NamedOp<'a>
 }
 
 fn next_set<'a>(lines: &mut RuleLines<'a>) -> Option<Result<NamedOp<'a>, BadLine>>
-    ensures answer { Answers (map (on_good set_write) lines.old) (map (on_good set_write) lines.new) result }
+    ensures answer { IsNextAnswer (map (on_good set_write) lines.old) (map (on_good set_write) lines.new) result }
     ensures good { IfSome result IsGoodOp }
 {
     match lines.next() {
@@ -99,7 +99,7 @@ fn next_set<'a>(lines: &mut RuleLines<'a>) -> Option<Result<NamedOp<'a>, BadLine
 }
 
 fn next_change<'a>(lines: &mut RuleLines<'a>) -> Option<Result<NamedOp<'a>, BadLine>>
-    ensures answer { Answers (map (on_good change_write) lines.old) (map (on_good change_write) lines.new) result }
+    ensures answer { IsNextAnswer (map (on_good change_write) lines.old) (map (on_good change_write) lines.new) result }
     ensures good { IfSome result IsGoodOp }
 {
     match lines.next() {
@@ -110,7 +110,7 @@ fn next_change<'a>(lines: &mut RuleLines<'a>) -> Option<Result<NamedOp<'a>, BadL
 }
 
 fn next_revoke<'a>(lines: &mut SubjectLines<'a>) -> Option<Result<NamedOp<'a>, BadLine>>
-    ensures answer { Answers (map (on_good NamedRevoke) lines.old) (map (on_good NamedRevoke) lines.new) result }
+    ensures answer { IsNextAnswer (map (on_good NamedRevoke) lines.old) (map (on_good NamedRevoke) lines.new) result }
     ensures good { IfSome result IsGoodOp }
 {
     match lines.next() {
@@ -121,7 +121,7 @@ fn next_revoke<'a>(lines: &mut SubjectLines<'a>) -> Option<Result<NamedOp<'a>, B
 }
 
 fn next_only<'a>(labels: &mut LabelWords<'a>) -> Option<Result<NamedOp<'a>, BadLine>>
-    ensures answer { Answers (map (on_good NamedAdd) labels.old) (map (on_good NamedAdd) labels.new) result }
+    ensures answer { IsNextAnswer (map (on_good NamedAdd) labels.old) (map (on_good NamedAdd) labels.new) result }
     ensures good { IfSome result IsGoodOp }
 {
     match labels.next() {
@@ -234,7 +234,7 @@ fn logging_in<'a>(text: &'a [u8]) -> Result<NamedOp<'a>, BadLine>
 }
 
 fn next_listed<'a>(list: &mut ListWrites<'a>) -> Option<Result<NamedOp<'a>, BadLine>>
-    ensures answer { Answers (list_left list.old) (list_left list.new) result }
+    ensures answer { IsNextAnswer (list_left list.old) (list_left list.new) result }
     ensures good { IfSome result IsGoodOp }
 {
     if list.cleared {
@@ -246,7 +246,7 @@ fn next_listed<'a>(list: &mut ListWrites<'a>) -> Option<Result<NamedOp<'a>, BadL
 
 fn next_of<'a>(reader: &mut Reader<'a>) -> Option<Result<NamedOp<'a>, BadLine>>
     requires { IsGoodReader reader.old }
-    ensures answer { Answers (left reader.old) (left reader.new) result }
+    ensures answer { IsNextAnswer (left reader.old) (left reader.new) result }
     ensures good { IfSome result IsGoodOp }
     ensures kept { IsGoodReader reader.new }
 {
@@ -283,7 +283,7 @@ impl<'a> TextWrites<'a> {
 
     /// The next write, or the first bad line; None where there is none, and behind a bad one.
     pub fn next(&mut self) -> Option<Result<NamedOp<'a>, BadLine>>
-        ensures answer { Answers self.old self.new result }
+        ensures answer { IsNextAnswer self.old self.new result }
         ensures good { IfSome result IsGoodOp }
     {
         next_of(&mut self.reader)
@@ -305,7 +305,7 @@ pub fn first_bad(file: RuleFile, text: &[u8]) -> Option<BadLine>
 }
 
 /// Why the writes of a text were not read.
-#[derive(Clone, Copy, Debug, PartialEq, Eq)]
+#[derive(Clone, Copy, PartialEq, Eq)]
 pub enum WritesFault {
     /// The first bad line of the text.
     Bad(BadLine),
@@ -321,8 +321,8 @@ pub fn read_writes<'a>(
     text: &'a [u8],
 ) -> Result<NamedOps<'a>, WritesFault>
     requires { length text.now ≤ 65536 }
-    ensures writes { IfOk result (λ ops. writes_of_text file text.now ≡ Ok (map named ops)) }
-    ensures good { IfOk result (λ ops. All (λ op. HasGoodNames (named op)) ops) }
+    ensures writes { IfOk result (λ ops. writes_of_text file text.now ≡ Ok (map named_write ops)) }
+    ensures good { IfOk result (λ ops. All (λ op. HasGoodNames (named_write op)) ops) }
     ensures bad { IfErr result (λ fault. IsBadText fault (writes_of_text file text.now)) }
 {
     let mut ops = NamedOps::new(alloc);

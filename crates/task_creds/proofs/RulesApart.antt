@@ -5,7 +5,7 @@ use Rattle.std.proofs.lemmas.Bool.{cases_Bool, eqb-true}
 use Rattle.std.proofs.lemmas.Map.Keys.{IsDistinct-cons, IsDistinct-head, IsDistinct-tail}
 use Rattle.smack_base.specs.declared.rule_op.Pair.{Pair}
 use Rattle.rules_spec.specs.Creds.{with_self_rule, with_self_rules}
-use Rattle.task_creds.specs.SelfRules.{are_of_one_pair, AreApart}
+use Rattle.task_creds.specs.SelfRules.{are_of_one_pair, ArePairsApart}
 
 -- no rule is of the pair of this one
 abbrev HasNone : Pair → List Pair → Type 0
@@ -36,11 +36,11 @@ none_alike : (p q : Pair) (rules : List Pair) → are_of_one_pair p q ≡ true �
 none_alike p q [] one none = tt
 none_alike p q (r ∷ rs) one none = (sym (alike p q r one) ∙ none.0, none_alike p q rs one none.1)
 
-pub apart_none : AreApart []
+pub apart_none : ArePairsApart []
 unfolding IsDistinct
 apart_none = tt
 
-apart_with : (rules : List Pair) (rule : Pair) → AreApart rules → AreApart (with_self_rule rules rule)
+apart_with : (rules : List Pair) (rule : Pair) → ArePairsApart rules → ArePairsApart (with_self_rule rules rule)
 apart_with [] rule apart = IsDistinct-cons are_of_one_pair rule [] tt apart
 apart_with (q ∷ qs) rule apart =
     let none = IsDistinct-head are_of_one_pair q qs apart in
@@ -51,6 +51,6 @@ apart_with (q ∷ qs) rule apart =
     ]
 
 -- rules that are of a pair of their own each stay so when some are put among them
-pub apart_with_more : (more rules : List Pair) → AreApart rules → AreApart (with_self_rules rules more)
+pub apart_with_more : (more rules : List Pair) → ArePairsApart rules → ArePairsApart (with_self_rules rules more)
 apart_with_more [] rules apart = apart
 apart_with_more (p ∷ ps) rules apart = apart_with_more ps (with_self_rule rules p) (apart_with rules p apart)

@@ -8,5 +8,5 @@ abbrev pub are_of_one_pair : Pair → Pair → Bool
 are_of_one_pair p q = same_pair p.s p.o q.s q.o
 
 -- each rule is of a pair of its own
-abbrev pub AreApart : List Pair → Type 0
-AreApart rules = IsDistinct are_of_one_pair rules
+abbrev pub ArePairsApart : List Pair → Type 0
+ArePairsApart rules = IsDistinct are_of_one_pair rules

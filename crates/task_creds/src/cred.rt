@@ -1,6 +1,6 @@
 ghost use Rattle.std.specs.Prelude.{◌≡◌, ◌≤◌, [], length, nat_lt, IfOk, OnOk, OnErr, IfErr};
 ghost use Rattle.rules_spec.specs.Creds.{creds_first, holds_cap, without_cap, with_label, self_rule, with_self_rules, is_listed, most_self_rules, most_relabels};
-ghost use Rattle.task_creds.specs.SelfRules.{AreApart};
+ghost use Rattle.task_creds.specs.SelfRules.{ArePairsApart};
 ghost use Rattle.task_creds.specs.Limits.{IsSelfFault, IsRelabelFault};
 
 use crate::fault::CredFault;
@@ -13,7 +13,7 @@ use std::marker::Model;
 const MOST_RELABELS: u32 = 256;
 
 /// The credentials of a task.
-#[derive(Debug, Drop)]
+#[derive(Drop)]
 pub struct Cred {
     label: LabelId,
     mac_admin: bool,
@@ -26,7 +26,7 @@ pub struct Cred {
 impl Model for Cred {
     ghost use Rattle.std.specs.Prelude.{◌≤◌, length};
     ghost use Rattle.rules_spec.specs.Creds.{Creds, most_self_rules, most_relabels};
-    ghost use Rattle.task_creds.specs.SelfRules.{AreApart};
+    ghost use Rattle.task_creds.specs.SelfRules.{ArePairsApart};
 
     ghost Value = { Creds };
 
@@ -39,7 +39,7 @@ impl Model for Cred {
       relabels = c.relabels.items;
     } };
 
-    ghost invariant = { λ c. (length c.self_rules.items ≤ most_self_rules) × AreApart c.self_rules.items × (length c.relabels.items ≤ most_relabels) };
+    ghost invariant = { λ c. (length c.self_rules.items ≤ most_self_rules) × ArePairsApart c.self_rules.items × (length c.relabels.items ≤ most_relabels) };
 }
 
 impl Cred {
@@ -87,7 +87,7 @@ impl Cred {
     pub fn self_rules(&self) -> &[Pair]
         ensures rules { result.now ≡ self.now.self_rules }
         ensures limit { length self.now.self_rules ≤ most_self_rules }
-        ensures apart { AreApart self.now.self_rules }
+        ensures apart { ArePairsApart self.now.self_rules }
     {
         self.self_rules.as_slice()
     }

@@ -7,7 +7,7 @@ use std::marker::Model;
 use task_creds::Cred;
 
 /// A task: its pid, whether it is live, its credentials, and the signals that wait for it.
-#[derive(Debug, Drop)]
+#[derive(Drop)]
 pub(crate) struct Row {
     pid: Pid,
     live: bool,

@@ -14,7 +14,7 @@ use task_creds::Cred;
 const MOST_TASKS: u32 = 64;
 
 /// The tasks that were ever made, each at the place of its number.
-#[derive(Debug, Drop)]
+#[derive(Drop)]
 pub struct Tasks {
     rows: Vec<Row>,
 }

@@ -9,7 +9,7 @@
 use smack_base::LabelFault;
 
 /// The forms of a text of rules (Smack guide, its list of smackfs files).
-#[derive(Clone, Copy, Debug, PartialEq, Eq)]
+#[derive(Clone, Copy, PartialEq, Eq)]
 pub enum RuleForm {
     /// `subject object access`, parted by spaces or tabs (`load2`).
     Long,
@@ -20,7 +20,7 @@ pub enum RuleForm {
 }
 
 /// What is wrong with a line of a text of rules, the first in this order.
-#[derive(Clone, Copy, Debug, PartialEq, Eq)]
+#[derive(Clone, Copy, PartialEq, Eq)]
 pub enum LineFault {
     /// So many fields stand in the line, and not as many as its form has.
     Fields { n: u32 },
@@ -41,7 +41,7 @@ pub enum LineFault {
 }
 
 /// The first bad line of a text: its number, from 1, and its first fault.
-#[derive(Clone, Copy, Debug, PartialEq, Eq)]
+#[derive(Clone, Copy, PartialEq, Eq)]
 pub struct BadLine {
     pub line: u32,
     pub fault: LineFault,

@@ -1,7 +1,7 @@
 ghost use Rattle.std.specs.Prelude.{◌≡◌, map, take, drop, IfOk};
-ghost use Rattle.world_spec.specs.Worlds.{names_of, in_byte_order};
+ghost use Rattle.world_spec.specs.Worlds.{file_names, in_byte_order};
 ghost use Rattle.world_spec.specs.Steps.{most_names};
-ghost use Rattle.tree_calls.specs.Shown.{shown};
+ghost use Rattle.tree_calls.specs.Shown.{lists_of};
 
 use std::alloc::{AllocError, Global};
 use std::collections::BTreeSet;
@@ -12,7 +12,7 @@ const MOST_NAMES: usize = 16;
 
 /// The names of files, in byte order.
 fn in_order<'a>(alloc: Global, files: &'a [FileRow]) -> Result<BTreeSet<&'a [u8]>, AllocError>
-    ensures { IfOk result (λ names. shown names.keys ≡ in_byte_order (names_of files.now)) }
+    ensures { IfOk result (λ names. lists_of names.keys ≡ in_byte_order (file_names files.now)) }
 {
     let mut names = BTreeSet::new(alloc);
     for file in files {
@@ -56,7 +56,7 @@ fn one_listing<'a, 'b>(names: &'b [&'a [u8]]) -> &'b [&'a [u8]]
 }
 
 fn all_names(alloc: Global, names: &[&[u8]]) -> Result<Listing, AllocError>
-    ensures { IfOk result (λ list. list ≡ shown names.now) }
+    ensures { IfOk result (λ list. list ≡ lists_of names.now) }
 {
     let mut list = Listing::new(alloc);
     for name in names {
@@ -68,7 +68,7 @@ fn all_names(alloc: Global, names: &[&[u8]]) -> Result<Listing, AllocError>
 /// The names of one listing of files, from this place on in byte order.
 #[tactic(auto, using(crate::proofs::Orders::shown_on))]
 pub(crate) fn names_from(alloc: Global, files: &[FileRow], at: u32) -> Result<Listing, AllocError>
-    ensures { IfOk result (λ names. names ≡ take most_names (drop at (in_byte_order (names_of files.now)))) }
+    ensures { IfOk result (λ names. names ≡ take most_names (drop at (in_byte_order (file_names files.now)))) }
 {
     let set = in_order(alloc, files)?;
     let list = as_list(alloc, &set)?;

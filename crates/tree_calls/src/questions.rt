@@ -5,7 +5,7 @@ ghost use Rattle.world_spec.specs.Questions.{walk_to_last, walk, first_name as f
 ghost use Rattle.world_spec.specs.Steps.{went, verdict_by_creds};
 ghost use Rattle.world_state.specs.Seen.{world_seen};
 ghost use Rattle.world_state.specs.Judging.{went_in, Passes};
-ghost use Rattle.tree_calls.specs.Callers.{asks_of};
+ghost use Rattle.tree_calls.specs.Callers.{tree_asks_of};
 
 use rules_spec::{EXECUTE, READ, READ_WRITE};
 use smack_base::{Bytes, LabelId, Path};
@@ -84,7 +84,7 @@ fn put_walk(parts: &mut Vec<Part>, state: &State, names: &[Bytes]) -> Result<(),
 }
 
 fn create_parts(alloc: Global, caller: &Caller<'_>, path: &Path) -> Result<Vec<Part>, AllocError>
-    ensures { IfOk result (λ parts. parts.items ≡ asks_of caller.now (TreeCall.Create path.now)) }
+    ensures { IfOk result (λ parts. parts.items ≡ tree_asks_of caller.now (TreeCall.Create path.now)) }
 {
     let names = path.names();
     let mut parts = Vec::from_slice(
@@ -110,7 +110,7 @@ fn create_parts(alloc: Global, caller: &Caller<'_>, path: &Path) -> Result<Vec<P
 }
 
 fn unlink_parts(alloc: Global, caller: &Caller<'_>, path: &Path) -> Result<Vec<Part>, AllocError>
-    ensures { IfOk result (λ parts. parts.items ≡ asks_of caller.now (TreeCall.Unlink path.now)) }
+    ensures { IfOk result (λ parts. parts.items ≡ tree_asks_of caller.now (TreeCall.Unlink path.now)) }
 {
     let names = path.names();
     let mut parts = Vec::from_slice(
@@ -129,7 +129,7 @@ fn unlink_parts(alloc: Global, caller: &Caller<'_>, path: &Path) -> Result<Vec<P
 }
 
 fn list_parts(alloc: Global, caller: &Caller<'_>, path: &Path) -> Result<Vec<Part>, AllocError>
-    ensures { IfOk result (λ parts. parts.items ≡ asks_of caller.now (TreeCall.ListDir path.now 0)) }
+    ensures { IfOk result (λ parts. parts.items ≡ tree_asks_of caller.now (TreeCall.ListDir path.now 0)) }
 {
     let names = path.names();
     let mut parts = Vec::new(alloc);
@@ -150,8 +150,8 @@ pub fn tree_judgement(
     caller: &Caller<'_>,
     call: &TreeCall,
 ) -> Result<Judgement, AllocError>
-    ensures went { IfOk result (λ j. went_in j ≡ went (verdict_by_creds caller.now.cred.now (ruling_of caller.now.rules.now)) (asks_of caller.now call.now)) }
-    ensures passes { IfOk result (λ j. j.stop ≡ None → Passes (asks_of caller.now call.now)) }
+    ensures went { IfOk result (λ j. went_in j ≡ went (verdict_by_creds caller.now.cred.now (ruling_of caller.now.rules.now)) (tree_asks_of caller.now call.now)) }
+    ensures passes { IfOk result (λ j. j.stop ≡ None → Passes (tree_asks_of caller.now call.now)) }
 {
     let parts = match call {
         TreeCall::Create { path } => create_parts(alloc, caller, path)?,

@@ -6,7 +6,7 @@ use Rattle.std.proofs.lemmas.Bool.{cases_Bool, ne_eqb}
 use Rattle.std.proofs.lemmas.Grind.{flat_map-append}
 use Rattle.std.proofs.Math.Seq.{take-append_seam, drop-append_seam}
 use Rattle.std.proofs.lemmas.List.{length-append, append-nil}
-use Rattle.world_spec.specs.Listings.{name_bytes, listing_bytes, told_length, behind_length, first_of, behind_first, names_within, names_in}
+use Rattle.world_spec.specs.Listings.{name_bytes, listing_bytes, told_length, behind_length, first_listed, behind_first, names_within, names_in}
 
 told_of : (q r : ℕ) (bs : List ℕ) → r < 255 → told_length (replicate q 255 ++ r ∷ bs) ≡ q * 255 + r
 told_of zero r bs small = simp (ne_eqb r 255 (λ e. omega (arith, e, small))) (omega arith)
@@ -28,7 +28,7 @@ behind_name : (name more : List ℕ) → behind_length (name_bytes name ++ more)
 behind_name name more =
     ap behind_length (in_front name more) ∙ behind_of (length name / 255) (length name % 255) (name ++ more) (mod-lt (length name) (omega arith))
 
-first_name : (name more : List ℕ) → first_of (name_bytes name ++ more) ≡ name
+first_name : (name more : List ℕ) → first_listed (name_bytes name ++ more) ≡ name
 first_name name more = rw (told_name name more, behind_name name more) (take-append_seam name more)
 
 behind_first_name : (name more : List ℕ) → behind_first (name_bytes name ++ more) ≡ more
@@ -81,7 +81,7 @@ short_of : (names : List (List ℕ)) → told_length (listing_bytes names) ≤ l
 short_of [] = omega arith
 short_of (x ∷ xs) = rw (told_name x (listing_bytes xs), in_front x (listing_bytes xs)) (grind (arith, length-append))
 
-next_of : (names : List (List ℕ)) → (length (listing_bytes names) ≡ 0 → ⊥) → names ≡ first_of (listing_bytes names) ∷ names_in (behind_first (listing_bytes names))
+next_of : (names : List (List ℕ)) → (length (listing_bytes names) ≡ 0 → ⊥) → names ≡ first_listed (listing_bytes names) ∷ names_in (behind_first (listing_bytes names))
 next_of [] some = absurd (some refl)
 next_of (x ∷ xs) some = rw (first_name x (listing_bytes xs), behind_first_name x (listing_bytes xs), same_names xs) refl
 
@@ -95,8 +95,8 @@ is_whole rest kept = subst (λ bs. told_length bs ≤ length (behind_length bs))
 pub is_short : (rest : List ℕ) → listing_bytes (names_in rest) ≡ rest → told_length rest ≤ length rest
 is_short rest kept = subst (λ bs. told_length bs ≤ length bs) kept (short_of (names_in rest))
 
-pub next_name : (rest : List ℕ) → listing_bytes (names_in rest) ≡ rest → (length rest ≡ 0 → ⊥) → names_in rest ≡ first_of rest ∷ names_in (behind_first rest)
-next_name rest kept some = subst (λ bs. (length bs ≡ 0 → ⊥) → names_in rest ≡ first_of bs ∷ names_in (behind_first bs)) kept (next_of (names_in rest)) some
+pub next_name : (rest : List ℕ) → listing_bytes (names_in rest) ≡ rest → (length rest ≡ 0 → ⊥) → names_in rest ≡ first_listed rest ∷ names_in (behind_first rest)
+next_name rest kept some = subst (λ bs. (length bs ≡ 0 → ⊥) → names_in rest ≡ first_listed bs ∷ names_in (behind_first bs)) kept (next_of (names_in rest)) some
 
 pub next_kept : (rest : List ℕ) → listing_bytes (names_in rest) ≡ rest → listing_bytes (names_in (behind_first rest)) ≡ behind_first rest
 next_kept rest kept = subst (λ bs. listing_bytes (names_in (behind_first bs)) ≡ behind_first bs) kept (kept_of (names_in rest))

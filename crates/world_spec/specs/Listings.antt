@@ -25,8 +25,8 @@ behind_length [] = []
 behind_length (b ∷ bs) = if b == 255 then behind_length bs else bs
 
 -- the first name of a block
-abbrev pub first_of : List ℕ → List ℕ
-first_of bytes = take (told_length bytes) (behind_length bytes)
+abbrev pub first_listed : List ℕ → List ℕ
+first_listed bytes = take (told_length bytes) (behind_length bytes)
 
 -- what comes behind that name
 abbrev pub behind_first : List ℕ → List ℕ
@@ -35,7 +35,7 @@ behind_first bytes = drop (told_length bytes) (behind_length bytes)
 -- the names of a block, up to so many
 abbrev pub names_within : ℕ → List ℕ → List (List ℕ)
 names_within zero bytes = []
-names_within (suc n) bytes = if length bytes == 0 then [] else first_of bytes ∷ names_within n (behind_first bytes)
+names_within (suc n) bytes = if length bytes == 0 then [] else first_listed bytes ∷ names_within n (behind_first bytes)
 
 -- The names of a block. It has no more names than bytes.
 abbrev pub names_in : List ℕ → List (List ℕ)

@@ -23,7 +23,7 @@ use Rattle.world_spec.specs.declared.Reply.{Reply}
 use Rattle.world_spec.specs.declared.Reply.TheVariants as Reply
 use Rattle.world_spec.specs.Signals.{with_signal, least_signal, without_least}
 use Rattle.world_spec.specs.Replies.{answered}
-use Rattle.world_spec.specs.Worlds.{World, TaskRow, live_task, creds_in, creds_or_first, creds_of, pending_in, pending_or_none, pending_of, with_creds, with_pending, without_life, with_child, with_file, without_file, names_of, in_byte_order}
+use Rattle.world_spec.specs.Worlds.{World, TaskRow, live_task, creds_in, creds_or_first, creds_of, pending_in, pending_or_none, pending_of, with_creds, with_pending, without_life, with_child, with_file, without_file, file_names, in_byte_order}
 use Rattle.world_spec.specs.Questions.{asks, first_name}
 
 -- what the refusals and questions of a call came to: the verdicts asked, and the reply where one ends the call
@@ -123,7 +123,7 @@ tree_left w version task (TreeCall.Create path) =
 tree_left w version task (TreeCall.Unlink path) = record { files = without_file w.files (first_name path); answer = Answer.Ok }
 tree_left w version task (TreeCall.ListDir path at) = record {
   files = w.files;
-  answer = Answer.Names (length w.files) (take most_names (drop at (in_byte_order (names_of w.files))));
+  answer = Answer.Names (length w.files) (take most_names (drop at (in_byte_order (file_names w.files))));
 }
 
 -- the world and the reply that an effect leaves
@@ -134,7 +134,7 @@ pub record Effect : Type 0 where
 -- a call that begins a task replies the number of that task, and any other its answer
 abbrev pub task_reply : List TaskRow → TaskEffect → Answer → Reply
 task_reply tasks (NewChild pid) answer = Reply.Child (length tasks)
-task_reply tasks change answer = answered answer
+task_reply tasks _ answer = answered answer
 
 abbrev pub with_tasks : World → ℕ → TaskLeft → Effect
 with_tasks w task left = record {

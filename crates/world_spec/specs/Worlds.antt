@@ -116,12 +116,12 @@ abbrev pub node_count : World → ℕ
 node_count w = length w.files + 1
 
 -- a file of this name
-abbrev pub has_name : List ℕ → FileRow → Bool
-has_name name r = bytes_eq r.name name
+abbrev pub is_named : List ℕ → FileRow → Bool
+is_named name r = bytes_eq r.name name
 
 -- the label of the file of this name, where there is one
 abbrev pub label_of : List FileRow → List ℕ → Option LabelId
-label_of files name = option_map (λ r. r.label) (find (has_name name) files)
+label_of files name = option_map (λ r. r.label) (find (is_named name) files)
 
 abbrev pub label_or_floor : Option LabelId → LabelId
 label_or_floor None = floor
@@ -133,10 +133,10 @@ with_file files f = files ++ f ∷ []
 
 -- the file of this name is gone
 abbrev pub without_file : List FileRow → List ℕ → List FileRow
-without_file files name = remove files (position_or_len (has_name name) files)
+without_file files name = remove files (position_or_len (is_named name) files)
 
-abbrev pub names_of : List FileRow → List (List ℕ)
-names_of files = map (λ f. f.name) files
+abbrev pub file_names : List FileRow → List (List ℕ)
+file_names files = map (λ f. f.name) files
 
 -- names in byte order: each at its place among those that came before it
 abbrev pub in_byte_order : List (List ℕ) → List (List ℕ)

@@ -19,14 +19,14 @@ use smack_base::{Bytes, Cap, Duplicate, Ids, LabelId, Modes, Pairs, Path, Pid, S
 use std::alloc::AllocError;
 
 /// A file of the root directory.
-#[derive(Debug, Drop)]
+#[derive(Drop)]
 pub struct FileRow {
     pub name: Bytes,
     pub label: LabelId,
 }
 
 /// A call on tasks: on the calling task, or on the live task of a pid.
-#[derive(Debug, Drop)]
+#[derive(Drop)]
 pub enum TaskCall {
     /// Makes a task with this pid, which no task ever had. It has a copy of its parent's
     /// credentials, and no signal waits for it.
@@ -76,7 +76,7 @@ impl Duplicate for TaskCall {
 }
 
 /// A call on the file tree.
-#[derive(Debug, Drop)]
+#[derive(Drop)]
 pub enum TreeCall {
     /// Makes an empty file.
     Create { path: Path },
@@ -100,7 +100,7 @@ impl Duplicate for TreeCall {
 }
 
 /// A call that a task makes, by families.
-#[derive(Debug, Drop)]
+#[derive(Drop)]
 pub enum Call {
     Task(TaskCall),
     Tree(TreeCall),
@@ -116,7 +116,7 @@ impl Duplicate for Call {
 }
 
 /// What a call asks before it is done.
-#[derive(Clone, Copy, Debug, PartialEq, Eq)]
+#[derive(Clone, Copy, PartialEq, Eq)]
 pub enum Question {
     /// The caller, with its own label, asks for modes on an object with this label.
     Own { o: LabelId, m: Modes },
@@ -125,7 +125,7 @@ pub enum Question {
 }
 
 /// A part of a call, before its effect.
-#[derive(Clone, Copy, Debug, PartialEq, Eq)]
+#[derive(Clone, Copy, PartialEq, Eq)]
 pub enum Part {
     /// The call is refused where something holds.
     Refuses { holds: bool, why: Why },
@@ -134,7 +134,7 @@ pub enum Part {
 }
 
 /// Why a call was refused.
-#[derive(Clone, Copy, Debug, PartialEq, Eq)]
+#[derive(Clone, Copy, PartialEq, Eq)]
 pub enum Why {
     /// The name is taken; for a pid, a task has or had it.
     Exists,
@@ -163,7 +163,7 @@ pub enum Why {
 }
 
 /// What a call says that goes through and makes no task.
-#[derive(Debug, Drop)]
+#[derive(Drop)]
 pub enum Answer {
     /// It was done.
     Ok,
@@ -187,7 +187,7 @@ impl Answer {
 }
 
 /// What came of a call.
-#[derive(Debug, Drop)]
+#[derive(Drop)]
 pub enum Reply {
     /// It was done.
     Ok,
@@ -232,7 +232,7 @@ impl Duplicate for Reply {
 }
 
 /// A call that was made, and what came of it.
-#[derive(Debug, Drop)]
+#[derive(Drop)]
 pub struct Entry {
     /// The number of the task, from 0.
     pub task: u16,

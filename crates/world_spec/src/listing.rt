@@ -1,6 +1,6 @@
 ghost use Rattle.std.specs.Prelude.{◌≡◌, [], ◌∷◌, ◌++◌, ◌+◌, ◌≤◌, ◌/◌, length, IfOk, OnOk, OnErr, MatchOption};
 ghost use Rattle.std.specs.Vec.{vec_len, vec_capacity};
-ghost use Rattle.world_spec.specs.Listings.{name_bytes, told_length, behind_length, first_of, behind_first};
+ghost use Rattle.world_spec.specs.Listings.{name_bytes, told_length, behind_length, first_listed, behind_first};
 
 use smack_base::Duplicate;
 use std::alloc::{AllocError, Global};
@@ -10,7 +10,7 @@ use std::marker::Model;
 const FULL: u8 = 255;
 
 /// Names in order, which contracts see as their list. They lie in one block, each behind its length.
-#[derive(Debug, Drop)]
+#[derive(Drop)]
 pub struct Listing {
     bytes: Vec<u8>,
 }
@@ -27,7 +27,7 @@ impl Model for Listing {
 }
 
 /// The names of a listing that are still to be read.
-#[derive(Debug, Drop)]
+#[derive(Drop)]
 pub struct ListedNames<'a> {
     rest: &'a [u8],
 }
@@ -76,7 +76,7 @@ fn split_length(bytes: &[u8]) -> (usize, &[u8])
 fn split_name(bytes: &[u8]) -> (&[u8], &[u8])
     requires short { told_length bytes.now ≤ length bytes.now }
     requires whole { told_length bytes.now ≤ length (behind_length bytes.now) }
-    ensures name { result.0.now ≡ first_of bytes.now }
+    ensures name { result.0.now ≡ first_listed bytes.now }
     ensures behind { result.1.now ≡ behind_first bytes.now }
 {
     let (len, behind) = split_length(bytes);

@@ -7,21 +7,21 @@ use Rattle.world_spec.specs.declared.Part.{Part}
 use Rattle.world_spec.specs.declared.Part.TheVariants as Part
 use Rattle.world_spec.specs.declared.Reply.TheVariants as Reply
 use Rattle.world_spec.specs.Steps.{Went, asked, went}
-use Rattle.world_state.specs.Judging.{behind, ended_by, Passes}
+use Rattle.world_state.specs.Judging.{behind_checks, ended_by, Passes}
 
 -- a refusal ends the call where it holds
 pub refused_ends : (verdict : Question → Verdict) (checks : List Verdict) (holds : Bool) (why : Why) (more : List Part)
-    → behind checks (went verdict (Part.Refuses holds why ∷ more)) ≡ ended_by checks (if holds then Some (Reply.Refused why) else None) (went verdict more)
+    → behind_checks checks (went verdict (Part.Refuses holds why ∷ more)) ≡ ended_by checks (if holds then Some (Reply.Refused why) else None) (went verdict more)
 refused_ends verdict checks true why more = λ i. record { checks = append-nil checks i; stop = Some (Reply.Refused why) }
 refused_ends verdict checks false why more = refl
 
 -- a denied question ends the call
 pub asked_ends : (checks : List Verdict) (v : Verdict) (w : Went)
-    → behind checks (asked v w) ≡ ended_by (checks ++ v ∷ []) (if v.allowed then None else Some (Reply.Denied v.case)) w
+    → behind_checks checks (asked v w) ≡ ended_by (checks ++ v ∷ []) (if v.allowed then None else Some (Reply.Denied v.case)) w
 asked_ends checks v w = by v.allowed
   where
     by : (allowed : Bool)
-        → behind checks (if allowed then record { checks = v ∷ w.checks; stop = w.stop } else record { checks = v ∷ []; stop = Some (Reply.Denied v.case) })
+        → behind_checks checks (if allowed then record { checks = v ∷ w.checks; stop = w.stop } else record { checks = v ∷ []; stop = Some (Reply.Denied v.case) })
         ≡ ended_by (checks ++ v ∷ []) (if allowed then None else Some (Reply.Denied v.case)) w
     by true = λ i. record { checks = sym (append_assoc checks (v ∷ []) w.checks) i; stop = w.stop }
     by false = refl
@@ -42,7 +42,7 @@ passes verdict (Part.Asks question ∷ more) none = passes verdict more (went_on
 
 -- behind the last part nothing is left to go through
 pub at_end : (verdict : Question → Verdict) (checks : List Verdict) (i : ℕ) (parts : List Part) (w : Went) → length parts ≤ i
-    → behind checks (went verdict (drop i parts)) ≡ w → record { checks = checks; stop = None } ≡ w
+    → behind_checks checks (went verdict (drop i parts)) ≡ w → record { checks = checks; stop = None } ≡ w
 at_end verdict checks i parts w past is =
     (λ j. record { checks = sym (append-nil checks) j; stop = None })
-    ∙ sym (ap (λ ps. behind checks (went verdict ps)) (drop_all i parts past)) ∙ is
+    ∙ sym (ap (λ ps. behind_checks checks (went verdict ps)) (drop_all i parts past)) ∙ is

@@ -11,12 +11,12 @@ abbrev pub went_in : Judgement → Went
 went_in j = record { checks = j.checks; stop = j.stop }
 
 -- what parts came to, behind these checks
-abbrev pub behind : List Verdict → Went → Went
-behind checks w = record { checks = checks ++ w.checks; stop = w.stop }
+abbrev pub behind_checks : List Verdict → Went → Went
+behind_checks checks w = record { checks = checks ++ w.checks; stop = w.stop }
 
 -- these checks, and a reply where one ends the call, or else what comes behind them
 abbrev pub ended_by : List Verdict → Option Reply → Went → Went
-ended_by checks None w = behind checks w
+ended_by checks None w = behind_checks checks w
 ended_by checks (Some reply) w = record { checks = checks; stop = Some reply }
 
 -- no refusal of these parts applies

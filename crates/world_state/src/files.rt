@@ -1,5 +1,5 @@
 ghost use Rattle.std.specs.Prelude.{◌≡◌, ◌<◌, ◌+◌, [], length, position, IfSome, OnOk, OnErr};
-ghost use Rattle.world_spec.specs.Worlds.{most_nodes, label_of, has_name, with_file, without_file};
+ghost use Rattle.world_spec.specs.Worlds.{most_nodes, label_of, is_named, with_file, without_file};
 
 use smack_base::LabelId;
 use std::alloc::{AllocError, Global};
@@ -7,7 +7,7 @@ use std::marker::Model;
 use world_spec::FileRow;
 
 /// The files of the root directory, the oldest first. The root and they are at most 65,536 nodes.
-#[derive(Debug, Drop)]
+#[derive(Drop)]
 pub struct RootFiles {
     rows: Vec<FileRow>,
 }
@@ -25,7 +25,7 @@ impl Model for RootFiles {
 }
 
 fn place_of(rows: &[FileRow], name: &[u8]) -> Option<usize>
-    ensures place { result ≡ position (has_name name.now) rows.now }
+    ensures place { result ≡ position (is_named name.now) rows.now }
     ensures within { IfSome result (λ at. at < length rows.now) }
 {
     rows.iter().position(|row| row.name.items() == name)

@@ -2,7 +2,7 @@ ghost use Rattle.std.specs.Prelude.{◌≡◌, ◌∷◌, List, None, IfOk};
 ghost use Rattle.rule_fold.specs.Index.{ruling_of};
 ghost use Rattle.world_spec.specs.declared.Part.{Part as PartOf};
 ghost use Rattle.world_spec.specs.Steps.{went, verdict_by_creds};
-ghost use Rattle.world_state.specs.Judging.{went_in, behind, ended_by, Passes};
+ghost use Rattle.world_state.specs.Judging.{went_in, behind_checks, ended_by, Passes};
 
 use rule_fold::RuleIndex;
 use rules_spec::{Checks, Verdict};
@@ -14,7 +14,7 @@ use world_spec::{Part, Question, Reply};
 
 /// What the parts of a call came to: the verdicts that were asked, and the reply where one of the
 /// parts ends the call.
-#[derive(Debug, Drop)]
+#[derive(Drop)]
 pub struct Judgement {
     pub checks: Checks,
     pub stop: Option<Reply>,
@@ -49,7 +49,7 @@ fn stop_of(
     part: Part,
 ) -> Result<Option<Reply>, AllocError>
     ensures { let verdict = verdict_by_creds cred.now (ruling_of rules.now) in
-        IfOk result (λ stop. (more : List PartOf) → behind checks.old (went verdict (part ∷ more)) ≡ ended_by checks.new stop (went verdict more)) }
+        IfOk result (λ stop. (more : List PartOf) → behind_checks checks.old (went verdict (part ∷ more)) ≡ ended_by checks.new stop (went verdict more)) }
 {
     match part {
         Part::Refuses { holds, why } => {

@@ -10,7 +10,7 @@ use task_table::Tasks;
 pub const ROOT: LabelId = LabelId::FLOOR;
 
 /// What calls act on: the tasks that were ever made, and the files of the root.
-#[derive(Debug, Drop)]
+#[derive(Drop)]
 pub struct State {
     pub tasks: Tasks,
     pub files: RootFiles,

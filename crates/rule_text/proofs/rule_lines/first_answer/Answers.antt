@@ -1,6 +1,6 @@
 use Rattle.rule_text.specs.Parts.{lines_of}
 use Rattle.rule_text.specs.Counted.{numbered_line}
-use Rattle.rule_text.specs.RuleAnswers.{seen}
+use Rattle.rule_text.specs.RuleAnswers.{answer_seen}
 use Rattle.rule_text.proofs.CountedLines.{first_rule, no_rule}
 use Rattle.rule_text.proofs.rule_lines.first_answer.Goals as goal
 
@@ -10,5 +10,5 @@ returns-in_default-clause-answers c =
 
 pub returns-clause-answers : goal.returns-clause-answers
 returns-clause-answers c =
-    first_rule c.args.form c.args.line (lines_of c.args.text) (numbered_line c.in-Some.first) (lines_of c.in-Some.first.rest) (seen c.read_line.result)
+    first_rule c.args.form c.args.line (lines_of c.args.text) (numbered_line c.in-Some.first) (lines_of c.in-Some.first.rest) (answer_seen c.read_line.result)
     (rw c.skipped_by.ensures at c.in-Some.ensures.lines) c.read_line.ensures.answer

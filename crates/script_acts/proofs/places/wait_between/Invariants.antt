@@ -1,7 +1,7 @@
 use Rattle.std.proofs.Common.{◌≤◌, map}
 use Rattle.script_text.specs.Lines.{call_seen}
-use Rattle.task_runs.specs.Scripts.{segment}
-use Rattle.task_runs.specs.Orders.{NoneWaits}
+use Rattle.runs_spec.specs.Scripts.{segment}
+use Rattle.runs_spec.specs.Orders.{NoneWaits}
 use Rattle.script_acts.proofs.places.wait_between.Given as goal
 
 abbrev pub invariant-loop-at : goal.invariant-loop-at

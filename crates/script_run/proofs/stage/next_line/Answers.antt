@@ -4,7 +4,7 @@ use Rattle.live_table.proofs.Lists.{long_map}
 use Rattle.script_spec.specs.Lines.{ScriptLine}
 use Rattle.script_text.specs.Lines.{call_seen}
 use Rattle.legal_spec.specs.Calls.{Stands}
-use Rattle.task_runs.specs.Scripts.{segment}
+use Rattle.runs_spec.specs.Scripts.{segment}
 use Rattle.script_run.proofs.stage.next_line.Goals as goal
 
 pub line_between-requires : goal.line_between-requires

@@ -2,8 +2,8 @@ use Rattle.std.proofs.Common.{◌<◌, List, ap, subst, arith, length, map, take
 use Rattle.live_table.proofs.Lists.{long_map}
 use Rattle.script_spec.specs.Lines.{ScriptLine}
 use Rattle.script_text.specs.Lines.{call_seen}
-use Rattle.task_runs.specs.Scripts.{segment}
-use Rattle.task_runs.specs.Orders.{NoneWaits}
+use Rattle.runs_spec.specs.Scripts.{segment}
+use Rattle.runs_spec.specs.Orders.{NoneWaits}
 use Rattle.script_acts.specs.Places.{IsWaitAt}
 use Rattle.script_run.specs.Waits.{AreNoWaits}
 use Rattle.script_run.proofs.WaitPlaces.{none_from}

@@ -1,8 +1,8 @@
 use Rattle.std.proofs.Common.{◌≡◌, ◌+◌, ◌-◌, ◌*◌, ◌≤◌, length, false}
-use Rattle.task_runs.specs.Scripts.{segment}
-use Rattle.task_runs.specs.Runs.{Ran}
-use Rattle.task_runs.specs.Orders.{IsOrderly}
-use Rattle.script_run.specs.Stages.{script_of}
+use Rattle.runs_spec.specs.Scripts.{segment}
+use Rattle.runs_spec.specs.Runs.{Ran}
+use Rattle.runs_spec.specs.Orders.{IsOrderly}
+use Rattle.script_run.specs.Stages.{stage_script}
 use Rattle.script_run.proofs.workers.+work.Given as goal
 
 abbrev pub decreases-halves-join+arg2 : goal.decreases-halves-join+arg2
@@ -31,10 +31,10 @@ invariant-go-loop-line g l = record {
   place : (l.fn.from ≤ l.at) × (l.at ≤ l.to);
   table : l.task.table ≡ l.stage.kernel.now.table;
   top : l.task.version ≤ length l.task.journal;
-  ran : Ran false (script_of g.S.ScriptLines.told l.stage) (segment l.pid l.fn.from l.to (g.S.ScriptLines.told l.stage.script.now))
+  ran : Ran false (stage_script g.S.ScriptLines.told l.stage) (segment l.pid l.fn.from l.to (g.S.ScriptLines.told l.stage.script.now))
       (segment l.pid l.at l.to (g.S.ScriptLines.told l.stage.script.now)) l.fn.task l.task l.fn.asked l.asked;
-  orderly : IsOrderly (script_of g.S.ScriptLines.told l.stage) (segment l.pid l.fn.from l.to (g.S.ScriptLines.told l.stage.script.now))
-      → IsOrderly (script_of g.S.ScriptLines.told l.stage) (segment l.pid l.at l.to (g.S.ScriptLines.told l.stage.script.now));
+  orderly : IsOrderly (stage_script g.S.ScriptLines.told l.stage) (segment l.pid l.fn.from l.to (g.S.ScriptLines.told l.stage.script.now))
+      → IsOrderly (stage_script g.S.ScriptLines.told l.stage) (segment l.pid l.at l.to (g.S.ScriptLines.told l.stage.script.now));
 }
 
 abbrev pub decreases-go-loop-line : goal.decreases-go-loop-line

@@ -1,6 +1,6 @@
 use Rattle.std.proofs.Common.{arith, refl, sym, subst, ◌∙◌, [], is_some}
-use Rattle.task_runs.specs.Scripts.{scripted, lines_by, ForksFirst}
-use Rattle.task_runs.proofs.Calls.{ran_unchanged}
+use Rattle.runs_spec.specs.Scripts.{scripted, lines_by, ForksFirst}
+use Rattle.runs_spec.proofs.Calls.{ran_unchanged}
 use Rattle.script_run.proofs.Working.{staged, work_lines}
 use Rattle.script_run.proofs.ForkLines.{forks_come_first}
 use Rattle.script_run.proofs.Stopping.{work_cause}

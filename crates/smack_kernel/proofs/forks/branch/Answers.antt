@@ -12,11 +12,11 @@ use Rattle.live_table.specs.Seats.{SeatValue, with_loads}
 use Rattle.live_table.proofs.AfterSteps.{turns_loaded}
 use Rattle.live_table.proofs.Lists.{rows_begin}
 use Rattle.smack_kernel.specs.Histories.{world_means}
-use Rattle.smack_kernel.specs.Growth.{entry_of}
+use Rattle.smack_kernel.specs.Growth.{told_entry}
 use Rattle.smack_kernel.specs.declared.index.Index.{Index}
 use Rattle.smack_kernel.specs.declared.turns.Turned.{Turned}
 use Rattle.smack_kernel.specs.declared.turns.Turned.TheVariants as Turned
-use Rattle.smack_kernel.specs.Tasks.{IsTask, Starts, task_of}
+use Rattle.smack_kernel.specs.Tasks.{IsTaskState, Starts, task_of}
 use Rattle.smack_kernel.specs.Turns.{IsMade, IsTurned}
 use Rattle.smack_kernel.specs.Forks.{task_made, MayFork, Forks}
 use Rattle.smack_kernel.proofs.Worlds.{IsLive}
@@ -185,7 +185,7 @@ give_with_child-child-requires-clause-may g c =
     subst (λ (z : ℕ × Turned). IsMade x m' (ruling s1.view.journal) z.0 seq call z.1)
     (λ i. (same1.1 i, is_entry i)) c.in-Ok.ensures.made in
     let may = may_fork c.requires.task x m' t c.args.made c.args.pid r made k is_child e.world in
-    let entry = entry_of s.number seq call r.version r.checks r.reply in
+    let entry = told_entry s.number seq call r.version r.checks r.reply in
     (entry, subst (λ (z : SeatValue Entry). MayFork z.view m' entry) (sym s2_is) may)
 
 pub invariant_of-result : goal.invariant_of-result
@@ -211,7 +211,7 @@ invariant_of-result g c =
     subst (λ (z : ℕ × Turned). IsMade x m' (ruling s1.view.journal) z.0 seq call z.1)
     (λ i. (same1.1 i, is_entry i)) c.in-Ok.ensures.made in
     let may = may_fork c.requires.task x m' t c.args.made c.args.pid r made k is_child e.world in
-    let entry = entry_of s.number seq call r.version r.checks r.reply in
+    let entry = told_entry s.number seq call r.version r.checks r.reply in
     let h = c.give_with_child-child.result in
     let s3 = c.give_with_child-child.new.seat in
     let hist : m'.trail ≡ c.fork_in_turn-forked.new.seat.view.history ++ entry ∷ [] =
@@ -224,7 +224,7 @@ invariant_of-result g c =
     let number : s3.number ≡ s.number = g.1 ∙ (ap (λ (z : SeatValue Entry). z.number) s2_is ∙ same1.1) in
     let child_table : h.table ≡ s3.table = g.2 ∙ sym g.0 in
     let heritage = c.in-Ok.ensures.heritage in (
-      subst (λ (z : Index). IsTask h z.rules z.rows c.in-Ok.heritage.creds) (sym heritage.0)
+      subst (λ (z : Index). IsTaskState h z.rules z.rows c.in-Ok.heritage.creds) (sym heritage.0)
           (child_task c.requires.task x m' t c.args.made c.args.pid r made k is_child e.world f table number child_table creds e.stands e.later c.in-Ok.ensures.whole heritage.1),
       omega arith,
     )
@@ -333,7 +333,7 @@ returns-else-not-makes_task-clause-task g c =
     subst (λ (z : ℕ × Turned). IsMade x m' (ruling s1.view.journal) z.0 seq call z.1)
     (λ i. (same1.1 i, is_entry i)) c.in-Ok.ensures.made in
     let may = may_fork c.requires.task x m' t c.args.made c.args.pid r made k is_child e.world in
-    let entry = entry_of s.number seq call r.version r.checks r.reply in
+    let entry = told_entry s.number seq call r.version r.checks r.reply in
     let h = c.give_with_child-child.result in
     let s3 = c.give_with_child-child.new.seat in
     let hist : m'.trail ≡ c.fork_in_turn-forked.new.seat.view.history ++ entry ∷ [] =
@@ -371,7 +371,7 @@ returns-else-not-makes_task-clause-branched g c =
     subst (λ (z : ℕ × Turned). IsMade x m' (ruling s1.view.journal) z.0 seq call z.1)
     (λ i. (same1.1 i, is_entry i)) c.in-Ok.ensures.made in
     let may = may_fork c.requires.task x m' t c.args.made c.args.pid r made k is_child e.world in
-    let entry = entry_of s.number seq call r.version r.checks r.reply in
+    let entry = told_entry s.number seq call r.version r.checks r.reply in
     let h = c.give_with_child-child.result in
     let s3 = c.give_with_child-child.new.seat in
     let hist : m'.trail ≡ c.fork_in_turn-forked.new.seat.view.history ++ entry ∷ [] =

@@ -1,6 +1,6 @@
 use Rattle.std.proofs.Common.{ap, subst, ◌∙◌, ◌++◌, ◌∷◌, [], false}
 use Rattle.live_table.specs.Seats.{SeatValue}
-use Rattle.smack_kernel.specs.Growth.{IsJudged}
+use Rattle.smack_kernel.specs.Growth.{IsBatchJudged}
 use Rattle.smack_kernel.specs.declared.publishing.Published.TheVariants as Published
 use Rattle.live_table.proofs.AfterSteps.{sees_loaded}
 use Rattle.smack_kernel.proofs.Indexes.{stands_longer}
@@ -24,7 +24,7 @@ returns-in-Ok-Batch-clause-published g c =
       pen = false;
       filled = [];
     }) c.judge.ensures.same)
-    (subst (IsJudged m.journal c.args.creds.now b.ops) c.in-Ok-Batch.field-0-is c.in-Ok-Batch.ensures.judged)
+    (subst (IsBatchJudged m.journal c.args.creds.now b.ops) c.in-Ok-Batch.field-0-is c.in-Ok-Batch.ensures.judged)
 
 pub returns-in-Ok-NotPrivileged-clause-published : goal.returns-in-Ok-NotPrivileged-clause-published
 returns-in-Ok-NotPrivileged-clause-published g c =

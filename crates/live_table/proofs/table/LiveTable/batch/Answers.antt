@@ -1,5 +1,5 @@
 use Rattle.std.proofs.Common.{arith, ap, sym, subst, ◌∙◌, ◌+◌, length, Some}
-use Rattle.live_table.specs.Batches.{words_of, OpsAt, first_of, first_rows}
+use Rattle.live_table.specs.Batches.{journal_words, OpsAt, first_batch, first_rows}
 use Rattle.live_table.specs.Seats.{SeatValue}
 use Rattle.live_table.proofs.AfterSteps.{loaded_own, loaded_more}
 use Rattle.live_table.proofs.Cuts.{headed, heads_it, heads_some, cut_end, first_rows_of}
@@ -9,7 +9,7 @@ pub returns-then-at-rows_seen-clause-batch : goal.returns-then-at-rows_seen-clau
 returns-then-at-rows_seen-clause-batch g c = λ front rest d.
     let rows = c.rows_seen.ensures.rows in
     let end = c.if-at-rows_seen.true in
-    ap first_of (sym (cut_end d (omega arith)))
+    ap first_batch (sym (cut_end d (omega arith)))
 
 pub unreachable-requires : goal.unreachable-requires
 unreachable-requires g c =
@@ -40,7 +40,7 @@ ops_at-requires-clause-ops g c =
     let len = ap (λ x. x.len)
     (heads_it h c.unpack_head.result c.in-Some.head c.row.ensures.word c.unpack_head.ensures.inverts c.in-Some.is) in (
       h.batch.ops,
-      subst (λ (s : SeatValue _). OpsAt (words_of s.view.journal) (c.args.at + 1) h.batch.ops)
+      subst (λ (s : SeatValue _). OpsAt (journal_words s.view.journal) (c.args.at + 1) h.batch.ops)
           (sym c.row.ensures.loaded) h.ops,
       len,
     )
@@ -52,9 +52,9 @@ returns-clause-batch g c = λ front rest d.
     let h = headed _ front rest c.args.at c.rows_seen.ensures.packed d (omega arith) in
     let head = heads_it h c.unpack_head.result c.in-Some.head c.row.ensures.word c.unpack_head.ensures.inverts c.in-Some.is in
     let ops = c.in_ok-ops.ensures.ops h.batch.ops
-    (subst (λ (s : SeatValue _). OpsAt (words_of s.view.journal) (c.args.at + 1) h.batch.ops)
+    (subst (λ (s : SeatValue _). OpsAt (journal_words s.view.journal) (c.args.at + 1) h.batch.ops)
     (sym c.row.ensures.loaded) h.ops) (ap (λ x. x.len) head) in
-    (λ i. Some record { task = (head i).task; seq = (head i).seq; ops = ops i }) ∙ ap first_of (sym h.is)
+    (λ i. Some record { task = (head i).task; seq = (head i).seq; ops = ops i }) ∙ ap first_batch (sym h.is)
 
 pub returns-clause-room : goal.returns-clause-room
 returns-clause-room g c =
@@ -66,7 +66,7 @@ returns-clause-room g c =
     let head = heads_it h c.unpack_head.result c.in-Some.head c.row.ensures.word c.unpack_head.ensures.inverts c.in-Some.is in
     let ops = ap length
     (c.in_ok-ops.ensures.ops h.batch.ops
-    (subst (λ (s : SeatValue _). OpsAt (words_of s.view.journal) (c.args.at + 1) h.batch.ops)
+    (subst (λ (s : SeatValue _). OpsAt (journal_words s.view.journal) (c.args.at + 1) h.batch.ops)
     (sym c.row.ensures.loaded) h.ops) (ap (λ x. x.len) head)) in
     let fits = h.fits in
     omega arith

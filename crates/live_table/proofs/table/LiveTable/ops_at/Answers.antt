@@ -1,5 +1,5 @@
 use Rattle.std.proofs.Common.{arith, refl, ap, sym, subst, ◌∙◌, ◌+◌, ◌<◌, get_or}
-use Rattle.live_table.specs.Batches.{words_of, rows_of}
+use Rattle.live_table.specs.Batches.{journal_words, rows_of}
 use Rattle.live_table.specs.Seats.{SeatValue}
 use Rattle.live_table.proofs.AfterSteps.{loaded_more}
 use Rattle.live_table.proofs.Cuts.{read_none, reads_on, reads_it, reads_some, read_all}
@@ -24,7 +24,7 @@ unreachable-requires g c =
     let e = c.requires.ops in
     reads_some c.unpack.result (v.2 e.0 e.1 e.2)
     (let a = c.loop-i-test.true in let b = c.from-i-end.ensures in omega arith)
-    (c.row.ensures.word ∙ ap (λ (s : SeatValue _). get_or (words_of s.view.journal) (c.args.at + c.loop-i.i) 0) v.0)
+    (c.row.ensures.word ∙ ap (λ (s : SeatValue _). get_or (journal_words s.view.journal) (c.args.at + c.loop-i.i) 0) v.0)
     c.unpack.ensures.inverts c.in-None.is
 
 pub returns-in_err-push-clause-same : goal.returns-in_err-push-clause-same
@@ -38,7 +38,7 @@ loop-i-preserved g c =
       λ ops o l. reads_it c.unpack.result c.in-Some.op (v.2 ops o l)
           (let a = c.loop-i-test.true in let b = c.from-i-end.ensures in omega arith)
           (c.row.ensures.word
-          ∙ ap (λ (s : SeatValue _). get_or (words_of s.view.journal) (c.args.at + c.loop-i.i) 0) v.0)
+          ∙ ap (λ (s : SeatValue _). get_or (journal_words s.view.journal) (c.args.at + c.loop-i.i) 0) v.0)
           c.unpack.ensures.inverts c.in-Some.is c.in_ok-push.ensures.ok,
     )
 

@@ -1,8 +1,8 @@
 use Rattle.std.proofs.Common.{◌≡◌, ◌≤◌, ◌+◌, length, sym, ap, ◌∙◌, subst}
 use Rattle.script_spec.specs.Tasks.{TaskChange, Forks, Awaits, change_of, forked_name}
-use Rattle.script_spec.specs.Grammar.{most_tasks}
+use Rattle.script_spec.specs.Grammar.{most_script_tasks}
 use Rattle.script_text.specs.Spelled.{spelled_seen}
-use Rattle.script_text.specs.TaskTables.{tasks_seen, change_seen, names_in, IsWaitThere, IsTasksAfter}
+use Rattle.script_text.specs.TaskTables.{tasks_seen, change_seen, part_names, IsWaitThere, IsTasksAfter}
 use Rattle.script_text.proofs.TaskSteps.{nothing_after, exit_after, wait_after, fork_after}
 use Rattle.script_text.proofs.tasks.TaskTable.add.Goals as goal
 
@@ -10,8 +10,8 @@ pub returns-in_ok-fork-in-Fork : goal.returns-in_ok-fork-in-Fork
 returns-in_ok-fork-in-Fork c =
     let name = c.in-Fork.name.bytes.now in
     let is : Forks name ≡ change_of (spelled_seen c.args.call.now) = ap change_seen (sym c.in-Fork.is) ∙ c.change_of.ensures in
-    let room : length (names_in c.args.self.now.names.items) + 1 ≤ most_tasks =
-    subst (λ (x : TaskChange). length (names_in c.args.self.now.names.items) + length (forked_name x) ≤ most_tasks) (sym is) c.requires.room in
+    let room : length (part_names c.args.self.now.names.items) + 1 ≤ most_script_tasks =
+    subst (λ (x : TaskChange). length (part_names c.args.self.now.names.items) + length (forked_name x) ≤ most_script_tasks) (sym is) c.requires.room in
     subst (λ (x : TaskChange). IsTasksAfter c.args.call.now.task x c.args.self.now c.fork.new.self) is
     (fork_after c.args.call.now.task name c.args.self.now c.count.new.self c.fork.new.self c.requires.table c.requires.task room c.count.ensures
     c.in_ok-fork-in-Fork.ensures)

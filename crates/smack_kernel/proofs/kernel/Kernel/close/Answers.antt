@@ -1,12 +1,12 @@
 use Rattle.std.proofs.Common.{sym, subst}
 use Rattle.live_table.specs.Lists.{Has}
-use Rattle.smack_kernel.specs.Answers.{IsWhole}
+use Rattle.smack_kernel.specs.Answers.{IsWholeTask}
 use Rattle.smack_kernel.proofs.kernel.Kernel.close.Goals as goal
 
 pub close-requires-clause-whole : goal.close-requires-clause-whole
 close-requires-clause-whole c =
     let t = c.task.invariant.0 in
-    let whole = subst IsWhole (sym c.task.view_is) c.requires.whole in record {
+    let whole = subst IsWholeTask (sym c.task.view_is) c.requires.whole in record {
       penless = t.rests.0;
       turnless = t.rests.1;
       first = subst (Has 0) (sym t.numbered) whole.first;

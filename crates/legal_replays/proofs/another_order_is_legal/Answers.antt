@@ -1,5 +1,0 @@
-use Rattle.legal_replays.proofs.Interleaved.{other_order}
-use Rattle.legal_replays.proofs.another_order_is_legal.Goals as goal
-
-pub returns : goal.returns
-returns c = other_order

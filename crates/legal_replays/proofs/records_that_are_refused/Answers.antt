@@ -1,5 +1,0 @@
-use Rattle.legal_replays.proofs.RefusedRecords.{refused}
-use Rattle.legal_replays.proofs.records_that_are_refused.Goals as goal
-
-pub returns : goal.returns
-returns c = refused

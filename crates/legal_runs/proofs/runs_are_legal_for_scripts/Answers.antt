@@ -1,5 +1,0 @@
-use Rattle.legal_runs.proofs.LegalFor.{runs_are_legal_for_scripts}
-use Rattle.legal_runs.proofs.runs_are_legal_for_scripts.Goals as goal
-
-pub returns : goal.returns
-returns c = runs_are_legal_for_scripts

@@ -1,0 +1,218 @@
+use Rattle.std.proofs.Common.{◌≡◌, ◌<◌, ◌≤◌, ℕ, ◌+◌, Bool, true, false, List, [], ◌∷◌, ◌++◌, length, refl, subst, sym, append-nil, append_assoc, Option, Some, None, Result, Ok, if◌then◌else◌, arith}
+use Rattle.std.specs.Prelude.{nat_lt, drop, not, ◌==◌}
+use Rattle.std.specs.Option.{option_map}
+use Rattle.std.proofs.lemmas.Bool.{eqb-true, and_parts, ltb-true, ltb-false}
+use Rattle.text_spec.specs.Texts.{Placed, lines_from}
+use Rattle.text_spec.specs.Names.{place_of}
+use Rattle.script_spec.specs.declared.Verb.{Verb}
+use Rattle.script_spec.specs.declared.WordKind.{WordKind}
+use Rattle.script_spec.specs.declared.Cause.{Cause}
+use Rattle.script_spec.specs.declared.Cause.TheVariants as Cause
+use Rattle.script_spec.specs.declared.What.TheVariants as What
+use Rattle.script_spec.specs.declared.ScriptFault.{ScriptFault}
+use Rattle.script_spec.specs.declared.ScriptFault.TheVariants as ScriptFault
+use Rattle.script_spec.specs.Words.{verb_of, kinds_of, is_of_kind, bad_word, has_deep_path, is_task_name, is_unbuilt_verb, word_at}
+use Rattle.script_spec.specs.Lines.{ScriptLine, verb_in}
+use Rattle.script_spec.specs.Tasks.{Tasks, task_names, has_exit, calls_by, tasks_of, pid_of, is_gone, is_live_name}
+use Rattle.script_spec.specs.Causes.{cause_if, first_cause, names_unbuilt_file, is_name_good, is_wait_good, words_cause, unless_verb, verb_cause, behind_task, line_cause}
+use Rattle.script_spec.specs.Grammar.{Item, has_text, call_of, fault_if, first_script_fault, limit_faults, item_fault, unless_script_fault, calls_of, lines_fault, items, script_of, most_bytes, most_lines, most_script_tasks, parse}
+use Rattle.replay_spec.proofs.KnownLabels.{not_refused}
+
+-- words are of kinds, one each, behind the words before them
+abbrev pub AreOfKinds : List Placed → List WordKind → List Placed → Type 0
+AreOfKinds before [] [] = Unit {0}
+AreOfKinds before [] (w ∷ ws) = ⊥
+AreOfKinds before (d ∷ ds) [] = ⊥
+AreOfKinds before (d ∷ ds) (w ∷ ws) = (is_of_kind d before w.bytes ≡ true) × AreOfKinds (before ++ w ∷ []) ds ws
+
+-- A call behind the calls above it: its verb, the words behind it, each of its kind, and tasks that may be named there.
+pub record IsGoodLine (above : List ScriptLine) (l : ScriptLine) : Type 0 where
+  pub verb : Verb
+  pub first : Placed
+  pub behind : List Placed
+  pub words : l.words ≡ first ∷ behind
+  pub is : verb_of first.bytes ≡ Some verb
+  pub kinds : AreOfKinds (first ∷ []) (kinds_of verb) behind
+  pub name : is_name_good (tasks_of above) verb behind ≡ true
+  pub wait : is_wait_good (tasks_of above) l.task verb behind ≡ true
+  pub there : l.task < length (task_names above)
+  pub live : has_exit above l.task ≡ false
+  pub kept : is_gone (tasks_of above) l.task ≡ false
+  pub seq : l.seq ≡ calls_by above l.task + 1
+  pub few : length (task_names (above ++ l ∷ [])) ≤ most_script_tasks
+
+-- the verb of a good call
+pub good_verb : (above : List ScriptLine) (l : ScriptLine) (good : IsGoodLine above l) → verb_in l ≡ Some good.verb
+good_verb above l good = rw good.words good.is
+
+abbrev pub AreGoodLines : List ScriptLine → List ScriptLine → Type 0
+AreGoodLines above [] = Unit {0}
+AreGoodLines above (l ∷ ls) = IsGoodLine above l × AreGoodLines (above ++ l ∷ []) ls
+
+-- where causes have no first one, none of them is one
+no_first_cause : (bad : Bool) (cause : Cause) (more : List (Option Cause)) → first_cause (cause_if bad cause ∷ more) ≡ None
+    → (bad ≡ false) × (first_cause more ≡ None)
+no_first_cause true cause more none = cc
+no_first_cause false cause more none = (refl, none)
+
+no_word_cause : (bad : Option ℕ) (more : List (Option Cause)) → first_cause (option_map (λ k. Cause.Word k) bad ∷ more) ≡ None
+    → (bad ≡ None) × (first_cause more ≡ None)
+no_word_cause None more none = (refl, none)
+no_word_cause (Some k) more none = cc
+
+-- as many words as kinds, none of them bad
+kinds_hold : (before : List Placed) (ds : List WordKind) (ws : List Placed) → length ws ≡ length ds → bad_word before ds ws ≡ None → AreOfKinds before ds ws
+kinds_hold before [] [] many none = tt
+kinds_hold before [] (w ∷ ws) many none = omega (arith, many)
+kinds_hold before (d ∷ ds) [] many none = omega (arith, many)
+kinds_hold before (d ∷ ds) (w ∷ ws) many none =
+    by (is_of_kind d before w.bytes) refl (kinds_hold (before ++ w ∷ []) ds ws (omega (arith, many))) none
+  where
+    by : (good : Bool) → is_of_kind d before w.bytes ≡ good
+        → (bad_word (before ++ w ∷ []) ds ws ≡ None → AreOfKinds (before ++ w ∷ []) ds ws)
+        → (if good then bad_word (before ++ w ∷ []) ds ws else Some (length before + 2)) ≡ None
+        → (is_of_kind d before w.bytes ≡ true) × AreOfKinds (before ++ w ∷ []) ds ws
+    by true good rest none = (good, rest none)
+    by false good rest none = cc
+
+not_so : (b : Bool) → not b ≡ true → b ≡ false
+not_so true is = cc
+not_so false is = refl
+
+is_not : (b : Bool) → not b ≡ false → b ≡ true
+is_not true is = refl
+is_not false is = cc
+
+-- what a line without a cause has behind its task
+record IsGood (tasks : Tasks) (task : List ℕ) (first : Placed) (behind : List Placed) : Type 0 where
+  verb : Verb
+  is : verb_of first.bytes ≡ Some verb
+  kinds : AreOfKinds (first ∷ []) (kinds_of verb) behind
+  name : is_name_good tasks verb behind ≡ true
+  wait : is_wait_good tasks (pid_of tasks task) verb behind ≡ true
+  live : is_live_name tasks task ≡ true
+
+words_good : (tasks : Tasks) (task : List ℕ) (first : Placed) (verb : Verb) (ws : List Placed) (text : Bool) → verb_of first.bytes ≡ Some verb
+    → words_cause tasks task first verb ws text ≡ None → IsGood tasks task first ws
+words_good tasks task first verb ws text is none =
+    let built = no_first_cause (names_unbuilt_file verb ws) Cause.NotBuilt _ none in
+    let many = no_first_cause (not (length ws == length (kinds_of verb))) Cause.Words _ built.1 in
+    let word = no_word_cause (bad_word (first ∷ []) (kinds_of verb) ws) _ many.1 in
+    let deep = no_first_cause (has_deep_path (kinds_of verb) ws) Cause.NotBuilt _ word.1 in
+    let whole = no_first_cause (not text) Cause.Text _ deep.1 in
+    let live = no_first_cause (not (is_live_name tasks task)) Cause.Task _ whole.1 in
+    let named = no_first_cause (not (is_name_good tasks verb ws)) Cause.Name _ live.1 in
+    let waits = no_first_cause (not (is_wait_good tasks (pid_of tasks task) verb ws)) Cause.Wait _ named.1 in
+    record {
+      verb = verb;
+      is = is;
+      kinds = kinds_hold (first ∷ []) (kinds_of verb) ws (eqb-true (length ws) (length (kinds_of verb)) (is_not _ many.0)) word.0;
+      name = is_not _ named.0;
+      wait = is_not _ waits.0;
+      live = is_not _ live.0;
+    }
+
+unless_verb_bad : (name : List ℕ) → unless_verb name ≡ None → ⊥
+unless_verb_bad name none = by (is_unbuilt_verb name) none
+  where
+    by : (unbuilt : Bool) → (if unbuilt then Some Cause.NotBuilt else Some Cause.Verb) ≡ None → ⊥
+    by true none = cc
+    by false none = cc
+
+verb_good : (tasks : Tasks) (task : List ℕ) (first : Placed) (verb : Option Verb) (ws : List Placed) (text : Bool) → verb_of first.bytes ≡ verb
+    → verb_cause tasks task first verb ws text ≡ None → IsGood tasks task first ws
+verb_good tasks task first None ws text is none = absurd (unless_verb_bad first.bytes none)
+verb_good tasks task first (Some verb) ws text is none = words_good tasks task first verb ws text is none
+
+past_task : (good : Bool) (cause : Option Cause) → (if good then cause else Some (Cause.Word 1)) ≡ None → cause ≡ None
+past_task true cause none = none
+past_task false cause none = cc
+
+-- a task that is live is there and has not exited, and nobody waited for it or for one that it descends from
+live_parts : (above : List ScriptLine) (name : List ℕ) → is_live_name (tasks_of above) name ≡ true
+    → (place_of (task_names above) name < length (task_names above)) × (has_exit above (place_of (task_names above) name) ≡ false)
+    × (is_gone (tasks_of above) (place_of (task_names above) name) ≡ false)
+live_parts above name live =
+    let pid = place_of (task_names above) name in
+    let parts = and_parts _ _ live in
+    let there = and_parts _ _ parts.0 in
+    (ltb-true pid (length (task_names above)) there.0, not_so (has_exit above pid) there.1, not_so (is_gone (tasks_of above) pid) parts.1)
+
+-- a call of these words behind its task
+good_words : (above : List ScriptLine) (l : ScriptLine) (ws : List Placed) (text : Bool) → line_cause (tasks_of above) ws text ≡ None
+    → l.words ≡ drop 1 ws → l.task ≡ pid_of (tasks_of above) (word_at 0 ws).bytes → l.seq ≡ calls_by above l.task + 1
+    → length (task_names (above ++ l ∷ [])) ≤ most_script_tasks → IsGoodLine above l
+good_words above l [] text none words task seq few = cc
+good_words above l (t ∷ []) text none words task seq few =
+    let bad = past_task (is_task_name t.bytes) (behind_task (tasks_of above) t.bytes [] text) none in cc
+good_words above l (t ∷ v ∷ ws) text none words task seq few =
+    let good = verb_good (tasks_of above) t.bytes v (verb_of v.bytes) ws text refl
+    (past_task (is_task_name t.bytes) (behind_task (tasks_of above) t.bytes (v ∷ ws) text) none) in
+    let live = live_parts above t.bytes good.live in
+    record {
+      verb = good.verb;
+      first = v;
+      behind = ws;
+      words = words;
+      is = good.is;
+      kinds = good.kinds;
+      name = good.name;
+      wait = subst (λ (k : ℕ). is_wait_good (tasks_of above) k good.verb ws ≡ true) (sym task) good.wait;
+      there = subst (λ (k : ℕ). k < length (task_names above)) (sym task) live.0;
+      live = subst (λ (k : ℕ). has_exit above k ≡ false) (sym task) live.1;
+      kept = subst (λ (k : ℕ). is_gone (tasks_of above) k ≡ false) (sym task) live.2;
+      seq = seq;
+      few = few;
+    }
+
+-- an item without a fault has a line without a cause
+no_cause : (lines : Bool) (line : ℕ) (cause : Option Cause) (more : List (Option ScriptFault))
+    → first_script_fault (fault_if lines (ScriptFault.TooLarge What.Lines) ∷ option_map (λ c. ScriptFault.Malformed line c) cause ∷ more) ≡ None → (cause ≡ None) × (first_script_fault more ≡ None)
+no_cause true line cause more none = cc
+no_cause false line None more none = (refl, none)
+no_cause false line (Some c) more none = cc
+
+pub within_limit : (over : Bool) (fault : ScriptFault) (more : List (Option ScriptFault)) → first_script_fault (fault_if over fault ∷ more) ≡ None → over ≡ false
+within_limit true fault more none = cc
+within_limit false fault more none = refl
+
+good_item : (above : List ScriptLine) (i : Item) → item_fault above i ≡ None → IsGoodLine above (call_of above i)
+good_item above i none =
+    let call = call_of above i in
+    let parts = no_cause (nat_lt most_lines i.line) i.line (line_cause (tasks_of above) i.words (has_text i)) (limit_faults (above ++ call ∷ []) call) none in
+    good_words above call i.words (has_text i) parts.0 refl refl refl
+    (ltb-false most_script_tasks (length (task_names (above ++ call ∷ []))) (within_limit (nat_lt most_script_tasks (length (task_names (above ++ call ∷ [])))) (ScriptFault.TooLarge What.Tasks) _ parts.1))
+
+-- what is read where nothing has a fault
+pub no_fault : (fault : Option ScriptFault) (more : Result (List ScriptLine) ScriptFault) (lines : List ScriptLine) → unless_script_fault fault more ≡ Ok lines
+    → (fault ≡ None) × (more ≡ Ok lines)
+no_fault None more lines is = (refl, is)
+no_fault (Some e) more lines is = cc
+
+pub ok_same : (a b : List ScriptLine) → ◌≡◌ {A = Result (List ScriptLine) ScriptFault} (Ok a) (Ok b) → a ≡ b
+ok_same a b is = cc
+
+-- what holds of no calls, and with each good call more, holds of a script
+module _ (P : List ScriptLine → Type 0) (more : (above : List ScriptLine) (l : ScriptLine) → IsGoodLine above l → P above → P (above ++ l ∷ [])) where
+  calls_hold : (behind : Option ScriptFault) (above : List ScriptLine) (is : List Item) (lines : List ScriptLine) → P above
+      → calls_of behind above is ≡ Ok lines → P lines
+  calls_hold behind above [] lines holds e =
+      let same : above ≡ lines = ok_same above lines (no_fault behind (Ok above) lines e).1 in subst P same holds
+  calls_hold behind above (i ∷ is) lines holds e =
+      let none = no_fault (item_fault above i) (calls_of behind (above ++ call_of above i ∷ []) is) lines e in
+      calls_hold behind (above ++ call_of above i ∷ []) is lines (more above (call_of above i) (good_item above i none.0) holds) none.1
+
+  pub script_holds : P [] → (bytes : List ℕ) (lines : List ScriptLine) → parse bytes ≡ Ok lines → P lines
+  script_holds none bytes lines is =
+      calls_hold (lines_fault (lines_from 0 bytes)) [] (items 1 0 (lines_from 0 bytes)) lines none
+      (not_refused (nat_lt most_bytes (length bytes)) (ScriptFault.TooLarge What.Bytes) (script_of (lines_from 0 bytes)) lines is)
+
+-- good calls with one more
+good_push : (above ls : List ScriptLine) (l : ScriptLine) → AreGoodLines above ls → IsGoodLine (above ++ ls) l → AreGoodLines above (ls ++ l ∷ [])
+good_push above [] l good one = (subst (λ (a : List ScriptLine). IsGoodLine a l) (append-nil above) one, tt)
+good_push above (x ∷ xs) l good one =
+    (good.0, good_push (above ++ x ∷ []) xs l good.1 (subst (λ (a : List ScriptLine). IsGoodLine a l) (sym (append_assoc above (x ∷ []) xs)) one))
+
+-- each call of a script is good behind those above it
+pub good_lines : (bytes : List ℕ) (lines : List ScriptLine) → parse bytes ≡ Ok lines → AreGoodLines [] lines
+good_lines bytes lines is = script_holds (AreGoodLines []) (λ above l one good. good_push [] above l good one) tt bytes lines is

@@ -1,0 +1,160 @@
+use Rattle.std.proofs.Common.{◌≡◌, ◌<◌, ℕ, Bool, true, false, if◌then◌else◌, not, List, [], ◌∷◌, length, refl, Option, Some, None}
+use Rattle.std.specs.List.{AllByRecursion}
+use Rattle.smack_base.specs.declared.ids.LabelId.{LabelId}
+use Rattle.smack_base.specs.declared.cap.Cap.{Cap}
+use Rattle.smack_base.specs.declared.cap.Cap.TheVariants as Cap
+use Rattle.rules_spec.specs.Rulings.{Ruling}
+use Rattle.rules_spec.specs.Creds.{Creds, is_effective, with_label, without_cap}
+use Rattle.world_spec.specs.declared.Question.{Question}
+use Rattle.world_spec.specs.declared.Question.TheVariants as Question
+use Rattle.world_spec.specs.declared.Part.TheVariants as Part
+use Rattle.world_spec.specs.declared.Why.TheVariants as Why
+use Rattle.world_spec.specs.declared.TaskCall.{TaskCall}
+use Rattle.world_spec.specs.declared.TaskCall.TheVariants as TaskCall
+use Rattle.world_spec.specs.declared.TreeCall.TheVariants as TreeCall
+use Rattle.world_spec.specs.declared.Call.{Call}
+use Rattle.world_spec.specs.declared.Call.TheVariants as Call
+use Rattle.world_spec.specs.declared.Answer.{Answer}
+use Rattle.world_spec.specs.Replies.{answered}
+use Rattle.world_spec.specs.Signals.{least_signal}
+use Rattle.world_spec.specs.Worlds.{World, TaskRow, is_live, live_task, creds_of, pending_of}
+use Rattle.world_spec.specs.Questions.{call_asks, walk, walk_to_last, first_name, node_label}
+use Rattle.world_spec.specs.Steps.{verdict_by_creds, verdict_of, relabelled, TaskEffect, NewChild, signal_answer, task_left, task_reply, went, effect, stepped, step}
+use Rattle.replay_spec.specs.Plain.{HasId, IsPlainVerdict, IsPlainReply, IsPlainCall}
+use Rattle.replay_spec.proofs.ReadCalls.{IsReadCall, plain_is_read}
+use Rattle.plain_laws.proofs.Lists.{all_append}
+use Rattle.plain_laws.proofs.Steps.{IsPlainQuestion, IsPlainPart, IsPlainEffect, IsPlainStepped, step_by_parts}
+use Rattle.plain_laws.proofs.PlainVerdicts.{verdict_is_plain, attach_is_plain}
+use Rattle.plain_laws.proofs.PathWords.{path_has_words}
+use Rattle.plain_laws.proofs.PlainWorlds.{IsPlainWorld, task_label_is_known, other_label_is_known, IsPlainChange, signalled_is_plain, tasks_after_are_plain, file_label_is_known, files_with_one, files_without_one, listed_are_words}
+
+-- a walk asks on the root alone
+walk_to_last_is_plain : (table : List (List ℕ)) (w : World) → IsPlainWorld table w → (path : List (List ℕ))
+    → AllByRecursion (IsPlainPart table) (walk_to_last w path)
+walk_to_last_is_plain table w plain [] = tt
+walk_to_last_is_plain table w plain (n ∷ []) = (plain.root, tt)
+walk_to_last_is_plain table w plain (n ∷ m ∷ ns) = (plain.root, (tt, (tt, tt)))
+
+walk_is_plain : (table : List (List ℕ)) (w : World) → IsPlainWorld table w → (path : List (List ℕ)) → AllByRecursion (IsPlainPart table) (walk w path)
+walk_is_plain table w plain [] = tt
+walk_is_plain table w plain (n ∷ []) = (plain.root, (tt, tt))
+walk_is_plain table w plain (n ∷ m ∷ ns) = walk_to_last_is_plain table w plain (n ∷ m ∷ ns)
+
+label_without_cap : (c : Creds) (cap : Cap) → (without_cap c cap).label ≡ c.label
+label_without_cap c Cap.MacAdmin = refl
+label_without_cap c Cap.MacOverride = refl
+label_without_cap c Cap.SysPtrace = refl
+
+relabelled_label : (c : Creds) (version : Ruling) (l : LabelId) → (relabelled c version l).label ≡ l
+relabelled_label c version l = by (is_effective c Cap.MacAdmin version)
+  where
+    by : (privileged : Bool) → (if privileged then with_label c l else record (with_label c l) { relabels = [] }).label ≡ l
+    by true = refl
+    by false = refl
+
+signal_answer_is_plain : (sig : Option ℕ) → IsPlainReply (answered (signal_answer sig))
+signal_answer_is_plain None = tt
+signal_answer_is_plain (Some sig) = tt
+
+task_reply_is_plain : (tasks : List TaskRow) (change : TaskEffect) (answer : Answer) → IsPlainReply (answered answer) → IsPlainReply (task_reply tasks change answer)
+task_reply_is_plain tasks (NewChild pid) answer known = tt
+task_reply_is_plain tasks change answer known = known
+
+module _ (table : List (List ℕ)) (first : 0 < length table) (w : World) (plain : IsPlainWorld table w) (version : Ruling) (task : ℕ) where
+  node_label_is_known : (path : List (List ℕ)) → HasId table (node_label w path)
+  node_label_is_known [] = plain.root
+  node_label_is_known (n ∷ ns) = file_label_is_known table first w.files n plain.files
+
+  -- the parts of a call in a plain world are plain
+  parts_are_plain : (call : Call) → AllByRecursion (IsPlainPart table) (call_asks w version task (creds_of w task) call)
+  parts_are_plain (Call.Task (TaskCall.Fork pid)) = (tt, (refl, tt))
+  parts_are_plain (Call.Task TaskCall.Exit) = tt
+  parts_are_plain (Call.Task (TaskCall.Relabel l)) = (tt, tt)
+  parts_are_plain (Call.Task (TaskCall.DropCap cap)) = tt
+  parts_are_plain (Call.Task (TaskCall.SelfRules rules)) = (refl, tt)
+  parts_are_plain (Call.Task (TaskCall.Relabels list)) = (tt, (refl, tt))
+  parts_are_plain (Call.Task (TaskCall.Kill pid sig)) = (tt, (other_label_is_known table first w plain (live_task w.tasks pid), (tt, tt)))
+  parts_are_plain (Call.Task TaskCall.Take) = (tt, tt)
+  parts_are_plain (Call.Task (TaskCall.TraceRead pid)) = (tt, (other_label_is_known table first w plain (live_task w.tasks pid), tt))
+  parts_are_plain (Call.Task (TaskCall.TraceAttach pid)) = (tt, (other_label_is_known table first w plain (live_task w.tasks pid), tt))
+  parts_are_plain (Call.Tree (TreeCall.Create path)) =
+      (tt, all_append (IsPlainPart table) (walk_to_last w path) _ (walk_to_last_is_plain table w plain path) (plain.root, (tt, (refl, tt))))
+  parts_are_plain (Call.Tree (TreeCall.Unlink path)) =
+      (tt, all_append (IsPlainPart table) (walk w path) _ (walk_is_plain table w plain path) (plain.root, (node_label_is_known path, tt)))
+  parts_are_plain (Call.Tree (TreeCall.ListDir path at)) =
+      all_append (IsPlainPart table) (walk w path) _ (walk_is_plain table w plain path) (node_label_is_known path, (tt, tt))
+
+  -- a task's question on a known label has a plain verdict
+  question_is_plain : (q : Question) → IsPlainQuestion table q → IsPlainVerdict table (verdict_of w version task q)
+  unfolding verdict_by_creds
+  question_is_plain (Question.Own o m) known =
+      verdict_is_plain table (creds_of w task) version (creds_of w task).label o m (task_label_is_known table first w plain task) known
+  question_is_plain (Question.Attach o) known = attach_is_plain table (creds_of w task) version o (task_label_is_known table first w plain task) known
+
+  own_label : HasId table (creds_of w task).label
+  own_label = task_label_is_known table first w plain task
+
+  step_by_effect : (call : Call) → IsPlainEffect table (effect w version task call) → IsPlainStepped table (step w version task call)
+  step_by_effect call done = step_by_parts table w version task call question_is_plain (tt, parts_are_plain call) plain done
+
+  refused_at_root : IsPlainStepped table (step w version task (Call.Tree (TreeCall.Create [])))
+  refused_at_root = by (not (is_live w.tasks task))
+    where
+      by : (gone : Bool)
+          → IsPlainStepped table (let through = went (verdict_of w version task) (Part.Refuses gone Why.NoSuchTask ∷ call_asks w version task (creds_of w task) (Call.Tree (TreeCall.Create []))) in
+          stepped w (effect w version task (Call.Tree (TreeCall.Create []))) through.checks through.stop)
+      by true = record { world = plain; checks = tt; reply = tt }
+      by false = record { world = plain; checks = tt; reply = tt }
+
+  -- what a call of plain words does to the tasks has a known label
+  change_is_plain : (names : List (List ℕ)) (call : TaskCall) → IsReadCall table names (Call.Task call) → IsPlainChange table (task_left w version task call).change
+  change_is_plain names (TaskCall.Relabel l) read = rw (relabelled_label (creds_of w task) version l) read
+  change_is_plain names (TaskCall.DropCap cap) read = rw (label_without_cap (creds_of w task) cap) own_label
+  change_is_plain names (TaskCall.SelfRules rules) read = own_label
+  change_is_plain names (TaskCall.Relabels list) read = own_label
+  change_is_plain names (TaskCall.Kill pid sig) read = signalled_is_plain table (live_task w.tasks pid) sig
+  change_is_plain names call read = tt
+
+  answer_is_plain : (call : TaskCall) → IsPlainReply (answered (task_left w version task call).answer)
+  answer_is_plain TaskCall.Take = signal_answer_is_plain (least_signal (pending_of w task))
+  answer_is_plain call = tt
+
+  task_step : (names : List (List ℕ)) (call : TaskCall) → IsReadCall table names (Call.Task call) → IsPlainStepped table (step w version task (Call.Task call))
+  task_step names call read =
+      let left = task_left w version task call in
+      step_by_effect (Call.Task call)
+      (record {
+        world = record {
+          tasks = tasks_after_are_plain table first w.tasks task left.change plain.tasks (change_is_plain names call read);
+          root = plain.root;
+          files = plain.files;
+        };
+        reply = task_reply_is_plain w.tasks left.change left.answer (answer_is_plain call);
+      })
+
+  -- A call of plain words has a plain step; a path without a name is refused before a file is made of it.
+  step_of_words : (names : List (List ℕ)) (call : Call) → IsReadCall table names call → IsPlainStepped table (step w version task call)
+  step_of_words names (Call.Task call) read = task_step names call read
+  step_of_words names (Call.Tree (TreeCall.Create [])) read = refused_at_root
+  step_of_words names (Call.Tree (TreeCall.Create (n ∷ ns))) read =
+      step_by_effect (Call.Tree (TreeCall.Create (n ∷ ns)))
+      (record {
+        world = record {
+          tasks = plain.tasks;
+          root = plain.root;
+          files = files_with_one table w.files _ plain.files (record { name = (path_has_words read.0 (n ∷ ns) read.1).0; label = own_label });
+        };
+        reply = tt;
+      })
+  step_of_words names (Call.Tree (TreeCall.Unlink path)) read =
+      step_by_effect (Call.Tree (TreeCall.Unlink path))
+      (record {
+        world = record { tasks = plain.tasks; root = plain.root; files = files_without_one table w.files (first_name path) plain.files };
+        reply = tt;
+      })
+  step_of_words names (Call.Tree (TreeCall.ListDir path at)) read =
+      step_by_effect (Call.Tree (TreeCall.ListDir path at)) (record { world = plain; reply = listed_are_words table w.files at plain.files })
+
+  -- the step of a plain call in a plain world is plain
+  pub step_is_plain : (names : List (List ℕ)) (call : Call) → IsPlainCall table names call → IsPlainStepped table (step w version task call)
+  step_is_plain names call given = step_of_words names call (plain_is_read table names call given)

@@ -1,0 +1,40 @@
+use Rattle.std.proofs.Common.{◌≡◌, List, [], ◌∷◌, ◌++◌, Option, Some, sym, subst, ◌∙◌}
+use Rattle.std.specs.List.{AllByRecursion}
+use Rattle.script_spec.specs.declared.Verb.{Verb}
+use Rattle.script_spec.specs.declared.Verb.TheVariants as Verb
+use Rattle.script_spec.specs.declared.WordKind.TheVariants as WordKind
+use Rattle.script_spec.specs.Words.{kinds_of}
+use Rattle.script_spec.specs.Lines.{ScriptLine, table_of}
+use Rattle.script_spec.specs.Tasks.{task_names}
+use Rattle.replay_spec.specs.Laws.{ReplayedIsPlain}
+use Rattle.plain_laws.proofs.KindsOfWords.{kind_1}
+use Rattle.plain_laws.proofs.GoodLines.{AreOfKinds, IsGoodLine, good_verb, AreGoodLines, good_lines}
+use Rattle.plain_laws.proofs.LabelTables.{labels_are_a_table, table_has_first}
+use Rattle.plain_laws.proofs.Tasks.{names_are_a_table}
+use Rattle.plain_laws.proofs.PlainRuns.{HasFileName, run_is_plain}
+
+same_verb : (a b : Verb) → ◌≡◌ {A = Option Verb} (Some a) (Some b) → a ≡ b
+same_verb a b is = cc
+
+-- the first word behind the verb of a write names a file
+line_named : (above : List ScriptLine) (l : ScriptLine) → IsGoodLine above l → HasFileName l
+line_named above l good is =
+    kind_1 l good.first WordKind.File (WordKind.Number ∷ []) good.behind good.words
+    (subst (λ verb. AreOfKinds (good.first ∷ []) (kinds_of verb) good.behind) (same_verb good.verb Verb.Write (sym (good_verb above l good) ∙ is)) good.kinds)
+
+lines_named : (above lines : List ScriptLine) → AreGoodLines above lines → AllByRecursion HasFileName lines
+lines_named above [] good = tt
+lines_named above (l ∷ ls) good = (line_named above l good.0, lines_named (above ++ l ∷ []) ls good.1)
+
+-- the record of a script that is replayed is plain
+pub replayed_is_plain : ReplayedIsPlain
+replayed_is_plain bytes lines is =
+    let labels = labels_are_a_table bytes lines is in
+    let plain = run_is_plain (table_of lines) (task_names lines) (table_has_first (table_of lines) labels) lines (lines_named [] lines (good_lines bytes lines is)) in
+    record {
+      labels = labels;
+      names = names_are_a_table bytes lines is;
+      journal = plain.journal;
+      history = plain.history;
+      asked = plain.asked;
+    }

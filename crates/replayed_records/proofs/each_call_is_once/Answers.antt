@@ -1,5 +1,0 @@
-use Rattle.replayed_records.proofs.EachLine.{each_call_is_once}
-use Rattle.replayed_records.proofs.each_call_is_once.Goals as goal
-
-pub returns : goal.returns
-returns c = each_call_is_once

@@ -1,0 +1,67 @@
+use Rattle.std.proofs.Common.{◌≡◌, ℕ, Bool, true, false, ◌&&◌, ◌||◌, List, [], ◌∷◌, ◌++◌, refl, ap, ◌∙◌}
+use Rattle.std.proofs.lemmas.List.Folds.{list_any-append}
+use Rattle.smack_base.specs.declared.modes.Modes.{Modes}
+use Rattle.smack_base.specs.Modes.{letter_r, letter_w, letter_x, letter_a, letter_t, letter_b, is_either_case, has_letter, modes_of, when, or_dash, letters_of}
+use Rattle.log_spec.proofs.PrintedBytes.{letter_bytes}
+use Rattle.text_laws.proofs.Clean.{is_clean, name_bytes_clean}
+
+-- what adding nothing to a test, and joining it with a known one, leaves of it
+or_nothing : (b : Bool) → (b || false) ≡ b
+or_nothing true = refl
+or_nothing false = refl
+
+and_yes : (b : Bool) → (b && true) ≡ b
+and_yes true = refl
+and_yes false = refl
+
+and_no : (b : Bool) → (b && false) ≡ false
+and_no true = refl
+and_no false = refl
+
+-- whether a letter stands in the text of one mode, and behind the texts of others
+letter_alone : (small letter : ℕ) (on : Bool) → has_letter small (when on letter) ≡ (on && is_either_case small letter)
+letter_alone small letter true = or_nothing (is_either_case small letter)
+letter_alone small letter false = refl
+
+letter_added : (small letter : ℕ) (text : List ℕ) (on : Bool) → has_letter small (text ++ when on letter) ≡ (has_letter small text || (on && is_either_case small letter))
+letter_added small letter text on = list_any-append (is_either_case small) text (when on letter) ∙ ap (λ b. has_letter small text || b) (letter_alone small letter on)
+
+-- the dash is no letter
+beside_dash : (small : ℕ) (text : List ℕ) → is_either_case small 45 ≡ false → has_letter small (or_dash text) ≡ has_letter small text
+beside_dash small [] other = ap (λ b. b || false) other
+beside_dash small (b ∷ bs) other = refl
+
+-- whether a mode of a set has this letter
+abbrev any_letter : ℕ → Modes → Bool
+any_letter small m =
+    (((((m.read && is_either_case small letter_r) || (m.write && is_either_case small letter_w)) || (m.execute && is_either_case small letter_x))
+    || (m.append && is_either_case small letter_a)) || (m.transmute && is_either_case small letter_t)) || (m.bring_up && is_either_case small letter_b)
+
+-- the letters of a printed set are those of its modes
+letter_stands : (small : ℕ) (m : Modes) → is_either_case small 45 ≡ false → has_letter small (letters_of m) ≡ any_letter small m
+letter_stands small m other =
+    beside_dash small _ other
+    ∙ (letter_added small letter_b _ m.bring_up
+    ∙ ap (λ b. b || (m.bring_up && is_either_case small letter_b)) (letter_added small letter_t _ m.transmute
+    ∙ ap (λ b. b || (m.transmute && is_either_case small letter_t)) (letter_added small letter_a _ m.append
+    ∙ ap (λ b. b || (m.append && is_either_case small letter_a)) (letter_added small letter_x _ m.execute
+    ∙ ap (λ b. b || (m.execute && is_either_case small letter_x)) (letter_added small letter_w (when m.read letter_r) m.write
+    ∙ ap (λ b. b || (m.write && is_either_case small letter_w)) (letter_alone small letter_r m.read))))))
+
+-- a printed mode set tells the set
+pub modes_read : (m : Modes) → modes_of (letters_of m) ≡ m
+modes_read m = λ i. record {
+  read = here letter_r m.read refl (simp (and_yes, and_no, or_nothing) refl) i;
+  write = here letter_w m.write refl (simp (and_yes, and_no, or_nothing) refl) i;
+  execute = here letter_x m.execute refl (simp (and_yes, and_no, or_nothing) refl) i;
+  append = here letter_a m.append refl (simp (and_yes, and_no, or_nothing) refl) i;
+  transmute = here letter_t m.transmute refl (simp (and_yes, and_no, or_nothing) refl) i;
+  bring_up = here letter_b m.bring_up refl (simp (and_yes, and_no, or_nothing) refl) i;
+}
+  where
+    here : (small : ℕ) (on : Bool) → is_either_case small 45 ≡ false → any_letter small m ≡ on → has_letter small (letters_of m) ≡ on
+    here small on other is = letter_stands small m other ∙ is
+
+-- the letters and the dash are neither spaces nor line feeds
+pub modes_clean : (m : Modes) → is_clean (letters_of m) ≡ true
+modes_clean m = name_bytes_clean (letters_of m) (letter_bytes m)

@@ -1,5 +1,0 @@
-use Rattle.world_replays.proofs.Standing.{longer_stands}
-use Rattle.world_replays.proofs.longer_stands.Goals as goal
-
-pub returns : goal.returns
-returns c = longer_stands
