@@ -1,4 +1,4 @@
-use Rattle.std.proofs.Common.{◌≡◌, arith, refl, sym, ◌∙◌, subst, ◌∷◌, [], length, take, is_some, Some}
+use Rattle.std.proofs.Common.{◌≡◌, arith, refl, sym, ap, ◌∙◌, subst, ◌∷◌, [], length, take, is_some, Some}
 use Rattle.script_text.specs.Lines.{call_seen}
 use Rattle.replay_spec.specs.declared.Act.TheVariants as Act
 use Rattle.replay_spec.specs.Acts.{act_of_line}
@@ -117,6 +117,6 @@ step-fork_line-requires-clause-first g t c κs within =
     let h = c.requires.here in
     let child = c.in-Ok-Some-Fork.child in
     let does = subst (λ labels. act_of_line labels s.names (call_seen c.args.line.now) ≡ Some (Act.Fork child)) c.labels.ensures
-    (sym c.in-Ok-Some-Fork.ensures ∙ c.in-Ok-Some-Fork.field-0-is) in
+    (sym c.in-Ok-Some-Fork.ensures ∙ (c.in-Ok-Some-Fork.field-0-is ∙ ap (λ act. Some act) c.in-Ok-Some-Fork.field-0-0-is)) in
     subst (λ k. lines_by child.0 (take k s.lines) ≡ []) (sym h.2)
     (c.requires.forks (call_seen c.args.line.now) h.0 child.0 h.1 (forks_task s (call_seen c.args.line.now) child does))
