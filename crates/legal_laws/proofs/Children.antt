@@ -47,8 +47,8 @@ stepped_makes w k e checks (Some reply) stops none = stops
 
 pub step_makes : (w : World) (version : Ruling) (task k : ℕ) (call : Call) → k < length w.tasks → makes k (step w version task call).reply ≡ false
 step_makes w version task k call there =
-    let through = went (verdict_of w version task) (asks w version task call) in
-    stepped_makes w k (effect w version task call) through.checks through.stop (none_at_stop k (verdict_of w version task) (asks w version task call))
+    let through = went (verdict_of w version) (asks w version task call) in
+    stepped_makes w k (effect w version task call) through.checks through.stop (none_at_stop k (verdict_of w version) (asks w version task call))
     (effect_unmade w version task k call there)
 
 same_number : (a b : ℕ) → Reply.Child a ≡ Reply.Child b → a ≡ b
@@ -62,8 +62,8 @@ fork_number w version task pid k =
   where
     by : (dead made full : Bool)
         → (stepped w (effect w version task (Call.Task (TaskCall.Fork pid)))
-        (went (verdict_of w version task) (Part.Refuses dead Why.NoSuchTask ∷ Part.Refuses made Why.Exists ∷ Part.Refuses full (Why.TasksFull most_tasks) ∷ [])).checks
-        (went (verdict_of w version task) (Part.Refuses dead Why.NoSuchTask ∷ Part.Refuses made Why.Exists ∷ Part.Refuses full (Why.TasksFull most_tasks) ∷ [])).stop).reply ≡ Reply.Child k
+        (went (verdict_of w version) (Part.Refuses dead Why.NoSuchTask ∷ Part.Refuses made Why.Exists ∷ Part.Refuses full (Why.TasksFull most_tasks) ∷ [])).checks
+        (went (verdict_of w version) (Part.Refuses dead Why.NoSuchTask ∷ Part.Refuses made Why.Exists ∷ Part.Refuses full (Why.TasksFull most_tasks) ∷ [])).stop).reply ≡ Reply.Child k
         → k ≡ length w.tasks
     by true made full is = cc
     by false true full is = cc

@@ -1,6 +1,6 @@
 -- The test of legality fails on each.
 use Rattle.std.proofs.Common.{◌≡◌, false, refl, sym, ◌∙◌}
-use Rattle.world_spec.specs.Steps.{verdict_by_creds}
+use Rattle.world_spec.specs.Steps.{verdict_of}
 use Rattle.record_spec.specs.declared.RunRecord.{RunRecord}
 use Rattle.legal_spec.specs.Legal.{IsLegal}
 use Rattle.legal_forms.specs.Forms.{is_legal}
@@ -11,7 +11,7 @@ refuses : (r : RunRecord) → is_legal r ≡ false → IsLegal r → ⊥
 refuses r fails legal = let wrong = sym ((legality_is_decided r).1 legal) ∙ fails in cc
 
 pub refused : RefusedRecords
-unfolding verdict_by_creds
+unfolding verdict_of
 refused = record {
   ask = refuses stale_ask refl;
   answer = refuses wrong_answer refl;

@@ -1,5 +1,6 @@
-use Rattle.std.proofs.Common.{◌≡◌, ◌<◌, ℕ, Bool, true, false, if◌then◌else◌, not, List, [], ◌∷◌, length, refl, Option, Some, None}
+use Rattle.std.proofs.Common.{◌≡◌, ◌<◌, ℕ, Bool, true, false, if◌then◌else◌, not, List, [], ◌∷◌, ◌++◌, length, refl, Option, Some, None}
 use Rattle.std.specs.List.{AllByRecursion}
+use Rattle.std.specs.Option.{IfSome}
 use Rattle.smack_base.specs.declared.ids.LabelId.{LabelId}
 use Rattle.smack_base.specs.declared.cap.Cap.{Cap}
 use Rattle.smack_base.specs.declared.cap.Cap.TheVariants as Cap
@@ -7,6 +8,7 @@ use Rattle.rules_spec.specs.Rulings.{Ruling}
 use Rattle.rules_spec.specs.Creds.{Creds, is_effective, with_label, without_cap}
 use Rattle.world_spec.specs.declared.Question.{Question}
 use Rattle.world_spec.specs.declared.Question.TheVariants as Question
+use Rattle.world_spec.specs.declared.Part.{Part}
 use Rattle.world_spec.specs.declared.Part.TheVariants as Part
 use Rattle.world_spec.specs.declared.Why.TheVariants as Why
 use Rattle.world_spec.specs.declared.TaskCall.{TaskCall}
@@ -18,27 +20,15 @@ use Rattle.world_spec.specs.declared.Answer.{Answer}
 use Rattle.world_spec.specs.Replies.{answered}
 use Rattle.world_spec.specs.Signals.{least_signal}
 use Rattle.world_spec.specs.Worlds.{World, TaskRow, is_live, live_task, creds_of, pending_of}
-use Rattle.world_spec.specs.Questions.{call_asks, walk, walk_to_last, first_name, node_label}
-use Rattle.world_spec.specs.Steps.{verdict_by_creds, verdict_of, relabelled, TaskEffect, NewChild, signal_answer, task_left, task_reply, went, effect, stepped, step}
+use Rattle.world_spec.specs.Questions.{call_asks, if_found, walk_to_last, first_name, label_at}
+use Rattle.world_spec.specs.Steps.{verdict_of, relabelled, TaskEffect, NewChild, signal_answer, task_left, task_reply, went, effect, stepped, step}
 use Rattle.replay_spec.specs.Plain.{HasId, IsPlainVerdict, IsPlainReply, IsPlainCall}
 use Rattle.replay_spec.proofs.ReadCalls.{IsReadCall, plain_is_read}
 use Rattle.plain_laws.proofs.Lists.{all_append}
-use Rattle.plain_laws.proofs.Steps.{IsPlainQuestion, IsPlainPart, IsPlainEffect, IsPlainStepped, step_by_parts}
+use Rattle.plain_laws.proofs.Steps.{IsPlainQuestion, IsPlainPart, IsPlainEffect, IsPlainStepped, found_is_plain, step_by_parts}
 use Rattle.plain_laws.proofs.PlainVerdicts.{verdict_is_plain, attach_is_plain}
 use Rattle.plain_laws.proofs.PathWords.{path_has_words}
-use Rattle.plain_laws.proofs.PlainWorlds.{IsPlainWorld, task_label_is_known, other_label_is_known, IsPlainChange, signalled_is_plain, tasks_after_are_plain, file_label_is_known, files_with_one, files_without_one, listed_are_words}
-
--- a walk asks on the root alone
-walk_to_last_is_plain : (table : List (List ℕ)) (w : World) → IsPlainWorld table w → (path : List (List ℕ))
-    → AllByRecursion (IsPlainPart table) (walk_to_last w path)
-walk_to_last_is_plain table w plain [] = tt
-walk_to_last_is_plain table w plain (n ∷ []) = (plain.root, tt)
-walk_to_last_is_plain table w plain (n ∷ m ∷ ns) = (plain.root, (tt, (tt, tt)))
-
-walk_is_plain : (table : List (List ℕ)) (w : World) → IsPlainWorld table w → (path : List (List ℕ)) → AllByRecursion (IsPlainPart table) (walk w path)
-walk_is_plain table w plain [] = tt
-walk_is_plain table w plain (n ∷ []) = (plain.root, (tt, tt))
-walk_is_plain table w plain (n ∷ m ∷ ns) = walk_to_last_is_plain table w plain (n ∷ m ∷ ns)
+use Rattle.plain_laws.proofs.PlainWorlds.{IsPlainWorld, task_label_is_known, IsPlainChange, signalled_is_plain, tasks_after_are_plain, file_label_is_known, files_with_one, files_without_one, listed_are_words}
 
 label_without_cap : (c : Creds) (cap : Cap) → (without_cap c cap).label ≡ c.label
 label_without_cap c Cap.MacAdmin = refl
@@ -61,9 +51,34 @@ task_reply_is_plain tasks (NewChild pid) answer known = tt
 task_reply_is_plain tasks change answer known = known
 
 module _ (table : List (List ℕ)) (first : 0 < length table) (w : World) (plain : IsPlainWorld table w) (version : Ruling) (task : ℕ) where
-  node_label_is_known : (path : List (List ℕ)) → HasId table (node_label w path)
-  node_label_is_known [] = plain.root
-  node_label_is_known (n ∷ ns) = file_label_is_known table first w.files n plain.files
+  own_label : HasId table (creds_of w task).label
+  own_label = task_label_is_known table first w plain task
+
+  -- a walk asks on the root alone
+  walk_to_last_is_plain : (path : List (List ℕ)) → AllByRecursion (IsPlainPart table) (walk_to_last w task (creds_of w task) path)
+  walk_to_last_is_plain [] = tt
+  walk_to_last_is_plain (n ∷ []) = ((own_label, plain.root), tt)
+  walk_to_last_is_plain (n ∷ m ∷ ns) = ((own_label, plain.root), (tt, (tt, tt)))
+
+  label_at_is_known : (path : List (List ℕ)) → IfSome (label_at w path) (HasId table)
+  label_at_is_known [] = plain.root
+  label_at_is_known (n ∷ ns) = file_label_is_known table w.files n plain.files
+
+  -- parts that go on with a task, which has a known label
+  task_found : (found : Option ℕ) (more : ℕ → List Part) → ((n : ℕ) → HasId table (creds_of w n).label → AllByRecursion (IsPlainPart table) (more n))
+      → AllByRecursion (IsPlainPart table) (if_found found Why.NoSuchTask more)
+  task_found found more serves = found_is_plain table (λ n. HasId table (creds_of w n).label) found Why.NoSuchTask more tt (known found) serves
+    where
+      known : (found : Option ℕ) → IfSome found (λ n. HasId table (creds_of w n).label)
+      known None = tt
+      known (Some n) = task_label_is_known table first w plain n
+
+  -- parts that go on with the label at a path
+  label_found : (path : List (List ℕ)) (more : LabelId → List Part) → ((l : LabelId) → HasId table l → AllByRecursion (IsPlainPart table) (more l))
+      → AllByRecursion (IsPlainPart table) (walk_to_last w task (creds_of w task) path ++ if_found (label_at w path) Why.NoSuchName more)
+  label_found path more serves =
+      all_append (IsPlainPart table) (walk_to_last w task (creds_of w task) path) _ (walk_to_last_is_plain path)
+      (found_is_plain table (HasId table) (label_at w path) Why.NoSuchName more tt (label_at_is_known path) serves)
 
   -- the parts of a call in a plain world are plain
   parts_are_plain : (call : Call) → AllByRecursion (IsPlainPart table) (call_asks w version task (creds_of w task) call)
@@ -73,26 +88,20 @@ module _ (table : List (List ℕ)) (first : 0 < length table) (w : World) (plain
   parts_are_plain (Call.Task (TaskCall.DropCap cap)) = tt
   parts_are_plain (Call.Task (TaskCall.SelfRules rules)) = (refl, tt)
   parts_are_plain (Call.Task (TaskCall.Relabels list)) = (tt, (refl, tt))
-  parts_are_plain (Call.Task (TaskCall.Kill pid sig)) = (tt, (other_label_is_known table first w plain (live_task w.tasks pid), (tt, tt)))
+  parts_are_plain (Call.Task (TaskCall.Kill pid sig)) = task_found (live_task w.tasks pid) _ (λ n known. ((own_label, known), (tt, tt)))
   parts_are_plain (Call.Task TaskCall.Take) = (tt, tt)
-  parts_are_plain (Call.Task (TaskCall.TraceRead pid)) = (tt, (other_label_is_known table first w plain (live_task w.tasks pid), tt))
-  parts_are_plain (Call.Task (TaskCall.TraceAttach pid)) = (tt, (other_label_is_known table first w plain (live_task w.tasks pid), tt))
+  parts_are_plain (Call.Task (TaskCall.TraceRead pid)) = task_found (live_task w.tasks pid) _ (λ n known. ((own_label, known), tt))
+  parts_are_plain (Call.Task (TaskCall.TraceAttach pid)) = task_found (live_task w.tasks pid) _ (λ n known. (known, tt))
   parts_are_plain (Call.Tree (TreeCall.Create path)) =
-      (tt, all_append (IsPlainPart table) (walk_to_last w path) _ (walk_to_last_is_plain table w plain path) (plain.root, (tt, (refl, tt))))
-  parts_are_plain (Call.Tree (TreeCall.Unlink path)) =
-      (tt, all_append (IsPlainPart table) (walk w path) _ (walk_is_plain table w plain path) (plain.root, (node_label_is_known path, tt)))
-  parts_are_plain (Call.Tree (TreeCall.ListDir path at)) =
-      all_append (IsPlainPart table) (walk w path) _ (walk_is_plain table w plain path) (node_label_is_known path, (tt, tt))
+      (tt, all_append (IsPlainPart table) (walk_to_last w task (creds_of w task) path) _ (walk_to_last_is_plain path) ((own_label, plain.root), (tt, (refl, tt))))
+  parts_are_plain (Call.Tree (TreeCall.Unlink path)) = (tt, label_found path _ (λ l known. ((own_label, plain.root), ((own_label, known), tt))))
+  parts_are_plain (Call.Tree (TreeCall.ListDir path at)) = label_found path _ (λ l known. ((own_label, known), (tt, tt)))
 
-  -- a task's question on a known label has a plain verdict
-  question_is_plain : (q : Question) → IsPlainQuestion table q → IsPlainVerdict table (verdict_of w version task q)
-  unfolding verdict_by_creds
-  question_is_plain (Question.Own o m) known =
-      verdict_is_plain table (creds_of w task) version (creds_of w task).label o m (task_label_is_known table first w plain task) known
-  question_is_plain (Question.Attach o) known = attach_is_plain table (creds_of w task) version o (task_label_is_known table first w plain task) known
-
-  own_label : HasId table (creds_of w task).label
-  own_label = task_label_is_known table first w plain task
+  -- a question of and on known labels has a plain verdict
+  question_is_plain : (q : Question) → IsPlainQuestion table q → IsPlainVerdict table (verdict_of w version q)
+  unfolding verdict_of
+  question_is_plain (Question.Full by s o m) known = verdict_is_plain table (creds_of w by) version s o m known.0 known.1
+  question_is_plain (Question.Attach by o) known = attach_is_plain table (creds_of w by) version o (task_label_is_known table first w plain by) known
 
   step_by_effect : (call : Call) → IsPlainEffect table (effect w version task call) → IsPlainStepped table (step w version task call)
   step_by_effect call done = step_by_parts table w version task call question_is_plain (tt, parts_are_plain call) plain done
@@ -101,7 +110,7 @@ module _ (table : List (List ℕ)) (first : 0 < length table) (w : World) (plain
   refused_at_root = by (not (is_live w.tasks task))
     where
       by : (gone : Bool)
-          → IsPlainStepped table (let through = went (verdict_of w version task) (Part.Refuses gone Why.NoSuchTask ∷ call_asks w version task (creds_of w task) (Call.Tree (TreeCall.Create []))) in
+          → IsPlainStepped table (let through = went (verdict_of w version) (Part.Refuses gone Why.NoSuchTask ∷ call_asks w version task (creds_of w task) (Call.Tree (TreeCall.Create []))) in
           stepped w (effect w version task (Call.Tree (TreeCall.Create []))) through.checks through.stop)
       by true = record { world = plain; checks = tt; reply = tt }
       by false = record { world = plain; checks = tt; reply = tt }

@@ -1,15 +1,14 @@
 use Rattle.std.proofs.Common.{◌≡◌, ◌<◌, ℕ, zero, suc, Bool, true, false, if◌then◌else◌, List, [], ◌∷◌, length, take, drop, Option, Some, None}
 use Rattle.std.specs.Prelude.{find, fold}
 use Rattle.std.specs.List.{AllByRecursion, position_or_len}
-use Rattle.std.specs.Option.{option_map}
+use Rattle.std.specs.Option.{option_map, IfSome}
 use Rattle.std.specs.BTreeSet.{insert_key}
 use Rattle.std.specs.Ordering.{nat_cmp}
 use Rattle.std.specs.Cmp.Lexicographic.{slice_cmp}
 use Rattle.std.proofs.lemmas.List.Elements.{All-from_recursion, recursion_from_All}
 use Rattle.std.proofs.lemmas.Map.Views.{All-insert_key}
 use Rattle.world_spec.specs.declared.FileRow.{FileRow}
-use Rattle.world_spec.specs.Worlds.{World, TaskRow, world_first, creds_in, creds_or_first, creds_of, changed_at, is_named, label_of, label_or_floor, with_file, without_file, file_names, in_byte_order}
-use Rattle.world_spec.specs.Questions.{label_of_task}
+use Rattle.world_spec.specs.Worlds.{World, TaskRow, world_first, creds_in, creds_or_first, creds_of, changed_at, is_named, label_of, with_file, without_file, file_names, in_byte_order}
 use Rattle.world_spec.specs.Steps.{most_names, TaskEffect, NoChange, NewCreds, LifeEnds, NewChild, NewSignal, SignalTaken, signalled, tasks_after}
 use Rattle.log_spec.specs.Audits.{is_word}
 use Rattle.replay_spec.specs.Plain.{HasId}
@@ -46,11 +45,6 @@ pub task_label_is_known : (table : List (List ℕ)) → 0 < length table → (w 
     → HasId table (creds_of w task).label
 task_label_is_known table first w plain task = creds_are_known table first w.tasks task plain.tasks
 
-pub other_label_is_known : (table : List (List ℕ)) → 0 < length table → (w : World) → IsPlainWorld table w → (task : Option ℕ)
-    → HasId table (label_of_task w task)
-other_label_is_known table first w plain None = first
-other_label_is_known table first w plain (Some n) = task_label_is_known table first w plain n
-
 -- tasks stay plain where a change keeps each plain
 pub changed_are_plain : (table : List (List ℕ)) (tasks : List TaskRow) (task : ℕ) (change : TaskRow → TaskRow) → AllByRecursion (IsPlainTask table) tasks
     → ((r : TaskRow) → IsPlainTask table r → IsPlainTask table (change r)) → AllByRecursion (IsPlainTask table) (changed_at tasks task change)
@@ -78,14 +72,14 @@ tasks_after_are_plain table first tasks task (NewChild pid) plain known =
 tasks_after_are_plain table first tasks task (NewSignal n sig) plain known = changed_are_plain table tasks n _ plain (λ r was. was)
 tasks_after_are_plain table first tasks task SignalTaken plain known = changed_are_plain table tasks task _ plain (λ r was. was)
 
--- the label of a file is known, and that of none is the first
-pub file_label_is_known : (table : List (List ℕ)) → 0 < length table → (files : List FileRow) (name : List ℕ) → AllByRecursion (IsPlainFile table) files
-    → HasId table (label_or_floor (label_of files name))
-file_label_is_known table first [] name plain = first
-file_label_is_known table first (f ∷ fs) name plain = by (is_named name f) (file_label_is_known table first fs name plain.1)
+-- the label of a file is known
+pub file_label_is_known : (table : List (List ℕ)) (files : List FileRow) (name : List ℕ) → AllByRecursion (IsPlainFile table) files
+    → IfSome (label_of files name) (HasId table)
+file_label_is_known table [] name plain = tt
+file_label_is_known table (f ∷ fs) name plain = by (is_named name f) (file_label_is_known table fs name plain.1)
   where
-    by : (here : Bool) → HasId table (label_or_floor (label_of fs name))
-        → HasId table (label_or_floor (option_map (λ (r : FileRow). r.label) (if here then Some f else find (is_named name) fs)))
+    by : (here : Bool) → IfSome (label_of fs name) (HasId table)
+        → IfSome (option_map (λ (r : FileRow). r.label) (if here then Some f else find (is_named name) fs)) (HasId table)
     by true rest = plain.0.label
     by false rest = rest
 

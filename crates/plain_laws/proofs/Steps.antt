@@ -3,6 +3,7 @@ use Rattle.std.specs.List.{AllByRecursion}
 use Rattle.std.specs.Option.{IfSome}
 use Rattle.rules_spec.specs.declared.Verdict.{Verdict}
 use Rattle.rules_spec.specs.Rulings.{Ruling}
+use Rattle.world_spec.specs.declared.Why.{Why}
 use Rattle.world_spec.specs.declared.Question.{Question}
 use Rattle.world_spec.specs.declared.Question.TheVariants as Question
 use Rattle.world_spec.specs.declared.Part.{Part}
@@ -11,20 +12,27 @@ use Rattle.world_spec.specs.declared.Call.{Call}
 use Rattle.world_spec.specs.declared.Reply.{Reply}
 use Rattle.world_spec.specs.declared.Reply.TheVariants as Reply
 use Rattle.world_spec.specs.Worlds.{World}
-use Rattle.world_spec.specs.Questions.{asks}
+use Rattle.world_spec.specs.Questions.{if_found, asks}
 use Rattle.world_spec.specs.Steps.{Went, asked, went, verdict_of, Effect, effect, Stepped, stepped, step}
 use Rattle.replay_spec.specs.Plain.{HasId, IsPlainVerdict, IsPlainReply}
 use Rattle.plain_laws.proofs.PlainWorlds.{IsPlainWorld}
 
--- a question is on a known label
+-- a question is of and on known labels
 abbrev pub IsPlainQuestion : List (List ℕ) → Question → Type 0
-IsPlainQuestion table (Question.Own o m) = HasId table o
-IsPlainQuestion table (Question.Attach o) = HasId table o
+IsPlainQuestion table (Question.Full by s o m) = HasId table s × HasId table o
+IsPlainQuestion table (Question.Attach by o) = HasId table o
 
 -- a part of a call: a refusal gives a plain reply, a question is plain
 abbrev pub IsPlainPart : List (List ℕ) → Part → Type 0
 IsPlainPart table (Part.Refuses holds why) = IsPlainReply (Reply.Refused why)
 IsPlainPart table (Part.Asks question) = IsPlainQuestion table question
+
+-- parts that go on with what a look-up found are plain, where it finds what serves
+pub found_is_plain : (table : List (List ℕ)) {A : Type 0} (P : A → Type 0) (found : Option A) (why : Why) (more : A → List Part)
+    → IsPlainReply (Reply.Refused why) → IfSome found P → ((x : A) → P x → AllByRecursion (IsPlainPart table) (more x))
+    → AllByRecursion (IsPlainPart table) (if_found found why more)
+found_is_plain table P None why more plain found serves = (plain, tt)
+found_is_plain table P (Some x) why more plain found serves = serves x found
 
 -- what the parts of a call came to is plain
 record IsPlainWent (table : List (List ℕ)) (w : Went) : Type 0 where
@@ -77,9 +85,9 @@ stepped_is_plain table w e checks (Some reply) plain done checked stopped = reco
 
 -- a call of plain parts with a plain effect has a plain step, where the verdicts of plain questions are plain
 pub step_by_parts : (table : List (List ℕ)) (w : World) (version : Ruling) (task : ℕ) (call : Call)
-    → ((q : Question) → IsPlainQuestion table q → IsPlainVerdict table (verdict_of w version task q))
+    → ((q : Question) → IsPlainQuestion table q → IsPlainVerdict table (verdict_of w version q))
     → AllByRecursion (IsPlainPart table) (asks w version task call) → IsPlainWorld table w → IsPlainEffect table (effect w version task call)
     → IsPlainStepped table (step w version task call)
 step_by_parts table w version task call judged parts plain done =
-    let through = went_is_plain table (verdict_of w version task) judged (asks w version task call) parts in
+    let through = went_is_plain table (verdict_of w version) judged (asks w version task call) parts in
     stepped_is_plain table w (effect w version task call) _ _ plain done through.checks through.stop

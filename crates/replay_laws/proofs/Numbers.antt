@@ -149,7 +149,7 @@ stepped_kept exited w e checks (Some reply) are kept = same_kept exited w.tasks 
 pub quiet_kept : (exited : ℕ → Bool) (w : World) (version : Ruling) (task : ℕ) (call : Call) → IsQuiet call → AreNumbered exited 0 w.tasks
     → AreKept exited w.tasks (step w version task call).world.tasks
 quiet_kept exited w version task call quiet are =
-    let through = went (verdict_of w version task) (asks w version task call) in
+    let through = went (verdict_of w version) (asks w version task call) in
     stepped_kept exited w (effect w version task call) through.checks through.stop are (effect_kept exited w version task call quiet are)
 
 -- an exit of a live task takes its life, and a fork with a new pid makes a task, where there is room

@@ -1,11 +1,11 @@
 use Rattle.std.proofs.Common.{refl}
 use Rattle.log_spec.specs.Numerals.{numeral}
-use Rattle.world_spec.specs.Steps.{verdict_by_creds}
+use Rattle.world_spec.specs.Steps.{verdict_of}
 use Rattle.replay_laws.specs.Rows.{WorkedScripts}
 
 -- each is computed from the definitions
 pub worked_scripts : WorkedScripts
-unfolding numeral verdict_by_creds
+unfolding numeral verdict_of
 worked_scripts = record {
   question = refl;
   empty = refl;

@@ -114,11 +114,11 @@ module _ (k : ℕ) where
     where
       by : (dead made full : Bool) → k ≡ length w.tasks
           → (stepped w (effect w version task (Call.Task (TaskCall.Fork pid)))
-          (went (verdict_of w version task) (Part.Refuses dead Why.NoSuchTask ∷ Part.Refuses made Why.Exists ∷ Part.Refuses full (Why.TasksFull most_tasks) ∷ [])).checks
-          (went (verdict_of w version task) (Part.Refuses dead Why.NoSuchTask ∷ Part.Refuses made Why.Exists ∷ Part.Refuses full (Why.TasksFull most_tasks) ∷ [])).stop).reply ≡ Reply.Child k
+          (went (verdict_of w version) (Part.Refuses dead Why.NoSuchTask ∷ Part.Refuses made Why.Exists ∷ Part.Refuses full (Why.TasksFull most_tasks) ∷ [])).checks
+          (went (verdict_of w version) (Part.Refuses dead Why.NoSuchTask ∷ Part.Refuses made Why.Exists ∷ Part.Refuses full (Why.TasksFull most_tasks) ∷ [])).stop).reply ≡ Reply.Child k
           → is_live (stepped w (effect w version task (Call.Task (TaskCall.Fork pid)))
-          (went (verdict_of w version task) (Part.Refuses dead Why.NoSuchTask ∷ Part.Refuses made Why.Exists ∷ Part.Refuses full (Why.TasksFull most_tasks) ∷ [])).checks
-          (went (verdict_of w version task) (Part.Refuses dead Why.NoSuchTask ∷ Part.Refuses made Why.Exists ∷ Part.Refuses full (Why.TasksFull most_tasks) ∷ [])).stop).world.tasks k ≡ true
+          (went (verdict_of w version) (Part.Refuses dead Why.NoSuchTask ∷ Part.Refuses made Why.Exists ∷ Part.Refuses full (Why.TasksFull most_tasks) ∷ [])).checks
+          (went (verdict_of w version) (Part.Refuses dead Why.NoSuchTask ∷ Part.Refuses made Why.Exists ∷ Part.Refuses full (Why.TasksFull most_tasks) ∷ [])).stop).world.tasks k ≡ true
       by true made full next is = cc
       by false true full next is = cc
       by false false true next is = cc
@@ -229,14 +229,14 @@ fork_pids w version task pid = by (not (is_live w.tasks task)) (was_made w.tasks
   where
     by : (dead made full : Bool) → was_made w.tasks pid ≡ made
         → (pids_of (stepped w (effect w version task (Call.Task (TaskCall.Fork pid)))
-        (went (verdict_of w version task) (Part.Refuses dead Why.NoSuchTask ∷ Part.Refuses made Why.Exists ∷ Part.Refuses full (Why.TasksFull most_tasks) ∷ [])).checks
-        (went (verdict_of w version task) (Part.Refuses dead Why.NoSuchTask ∷ Part.Refuses made Why.Exists ∷ Part.Refuses full (Why.TasksFull most_tasks) ∷ [])).stop).world.tasks ≡ pids_of w.tasks)
+        (went (verdict_of w version) (Part.Refuses dead Why.NoSuchTask ∷ Part.Refuses made Why.Exists ∷ Part.Refuses full (Why.TasksFull most_tasks) ∷ [])).checks
+        (went (verdict_of w version) (Part.Refuses dead Why.NoSuchTask ∷ Part.Refuses made Why.Exists ∷ Part.Refuses full (Why.TasksFull most_tasks) ∷ [])).stop).world.tasks ≡ pids_of w.tasks)
         ⊎ MadeOne w (Call.Task (TaskCall.Fork pid)) (stepped w (effect w version task (Call.Task (TaskCall.Fork pid)))
-        (went (verdict_of w version task) (Part.Refuses dead Why.NoSuchTask ∷ Part.Refuses made Why.Exists ∷ Part.Refuses full (Why.TasksFull most_tasks) ∷ [])).checks
-        (went (verdict_of w version task) (Part.Refuses dead Why.NoSuchTask ∷ Part.Refuses made Why.Exists ∷ Part.Refuses full (Why.TasksFull most_tasks) ∷ [])).stop).reply
+        (went (verdict_of w version) (Part.Refuses dead Why.NoSuchTask ∷ Part.Refuses made Why.Exists ∷ Part.Refuses full (Why.TasksFull most_tasks) ∷ [])).checks
+        (went (verdict_of w version) (Part.Refuses dead Why.NoSuchTask ∷ Part.Refuses made Why.Exists ∷ Part.Refuses full (Why.TasksFull most_tasks) ∷ [])).stop).reply
         (stepped w (effect w version task (Call.Task (TaskCall.Fork pid)))
-        (went (verdict_of w version task) (Part.Refuses dead Why.NoSuchTask ∷ Part.Refuses made Why.Exists ∷ Part.Refuses full (Why.TasksFull most_tasks) ∷ [])).checks
-        (went (verdict_of w version task) (Part.Refuses dead Why.NoSuchTask ∷ Part.Refuses made Why.Exists ∷ Part.Refuses full (Why.TasksFull most_tasks) ∷ [])).stop).world.tasks
+        (went (verdict_of w version) (Part.Refuses dead Why.NoSuchTask ∷ Part.Refuses made Why.Exists ∷ Part.Refuses full (Why.TasksFull most_tasks) ∷ [])).checks
+        (went (verdict_of w version) (Part.Refuses dead Why.NoSuchTask ∷ Part.Refuses made Why.Exists ∷ Part.Refuses full (Why.TasksFull most_tasks) ∷ [])).stop).world.tasks
     by true made full e = inl refl
     by false true full e = inl refl
     by false false true e = inl refl

@@ -171,9 +171,9 @@ fork_child : (w : World) (version : Ruling) (task : ℕ) (pid : Pid) (k : ℕ)
     → creds_of (step w version task (Call.Task (TaskCall.Fork pid))).world (length w.tasks) ≡ creds_of w task
 fork_child w version task pid k is =
     let parts = asks w version task (Call.Task (TaskCall.Fork pid)) in
-    let went_by = went (verdict_of w version task) parts in
+    let went_by = went (verdict_of w version) parts in
     stepped_child w task (effect w version task (Call.Task (TaskCall.Fork pid))) went_by.checks went_by.stop
-    (went_stops (verdict_of w version task) parts)
+    (went_stops (verdict_of w version) parts)
     (λ _. ap creds_or_first (child_has w.tasks (task_begun pid (creds_of w task)))) k is
 
 over_longer : {j j' : List Batch} (m : WorldValue) → Begins j' j → StandsOver j m.trail m.world → StandsOver j' m.trail m.world

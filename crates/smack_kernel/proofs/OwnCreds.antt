@@ -86,14 +86,14 @@ stepped_left w task c next e checks None stops is goes = goes refl
 -- what is prepared serves where it serves a call that goes through
 module _ (c : Creds) (version : Ruling) (call : Call) (next : Option Creds) where
   goes_through : ((w : World) (task : ℕ) → task < length w.tasks → creds_of w task ≡ c
-      → (went (verdict_of w version task) (asks w version task call)).stop ≡ None
+      → (went (verdict_of w version) (asks w version task call)).stop ≡ None
       → creds_of (effect w version task call).world task ≡ creds_left next c (effect w version task call).reply)
       → ArePrepared c version call next
   goes_through goes w task low is =
       let parts = asks w version task call in
-      let went_by = went (verdict_of w version task) parts in
+      let went_by = went (verdict_of w version) parts in
       stepped_left w task c next (effect w version task call) went_by.checks went_by.stop
-      (went_stops (verdict_of w version task) parts) is (goes w task low is)
+      (went_stops (verdict_of w version) parts) is (goes w task low is)
 
 module _ (c : Creds) (version : Ruling) where
   pub relabel_prepared : (l : LabelId) → ArePrepared c version (Call.Task (TaskCall.Relabel l)) (Some (relabelled c version l))
@@ -126,9 +126,9 @@ module _ (c : Creds) (version : Ruling) where
   rules_refused rules many = goes_through c version (Call.Task (TaskCall.SelfRules rules)) None
       (λ w task low is none.
       let count = length (with_self_rules (creds_of w task).self_rules rules) in
-      let a = through (verdict_of w version task) (not (is_live w.tasks task)) Why.NoSuchTask
+      let a = through (verdict_of w version) (not (is_live w.tasks task)) Why.NoSuchTask
       (Part.Refuses (nat_lt most_self_rules count) (Why.SelfFull most_self_rules) ∷ []) none in
-      let b = through (verdict_of w version task) (nat_lt most_self_rules count) (Why.SelfFull most_self_rules) [] a.1 in
+      let b = through (verdict_of w version) (nat_lt most_self_rules count) (Why.SelfFull most_self_rules) [] a.1 in
       let same : count ≡ length (with_self_rules c.self_rules rules) =
       ap (λ (z : Creds). length (with_self_rules z.self_rules rules)) is in
       let over : nat_lt most_self_rules count ≡ true = lt-ltb most_self_rules count (omega arith) in
@@ -141,10 +141,10 @@ module _ (c : Creds) (version : Ruling) where
       (λ w task low is none.
       let long = Part.Refuses (nat_lt most_relabels (length labels)) (Why.RelabelFull most_relabels) ∷ [] in
       let lacks = not (is_effective (creds_of w task) Cap.MacAdmin version) in
-      let a = through (verdict_of w version task) (not (is_live w.tasks task)) Why.NoSuchTask
+      let a = through (verdict_of w version) (not (is_live w.tasks task)) Why.NoSuchTask
       (Part.Refuses lacks Why.NotPrivileged ∷ long) none in
-      let b = through (verdict_of w version task) lacks Why.NotPrivileged long a.1 in
-      let d = through (verdict_of w version task) (nat_lt most_relabels (length labels)) (Why.RelabelFull most_relabels) [] b.1 in
+      let b = through (verdict_of w version) lacks Why.NotPrivileged long a.1 in
+      let d = through (verdict_of w version) (nat_lt most_relabels (length labels)) (Why.RelabelFull most_relabels) [] b.1 in
       let over : nat_lt most_relabels (length labels) ≡ true = lt-ltb most_relabels (length labels) many in
       absurd (let e : true ≡ false = sym over ∙ d.0 in cc))
 

@@ -81,15 +81,15 @@ few_tasks : (n : ℕ) → nat_le 64 n ≡ false → n < 64
 few_tasks n e = grind (arith, nat_tests)
 
 effect_makes : (w : World) (version : Ruling) (task : ℕ) (call : Call)
-    → (went (verdict_of w version task) (asks w version task call)).stop ≡ None
+    → (went (verdict_of w version) (asks w version task call)).stop ≡ None
     → MakesNext (length w.tasks) (is_fork_call call) (child_of (effect w version task call).reply)
     (length (effect w version task call).world.tasks)
 effect_makes w version task (Call.Task (TaskCall.Fork pid)) none =
     let full = Part.Refuses (nat_le most_tasks (length w.tasks)) (Why.TasksFull most_tasks) ∷ [] in
-    let a = through (verdict_of w version task) (not (is_live w.tasks task)) Why.NoSuchTask
+    let a = through (verdict_of w version) (not (is_live w.tasks task)) Why.NoSuchTask
     (Part.Refuses (was_made w.tasks pid) Why.Exists ∷ full) none in
-    let b = through (verdict_of w version task) (was_made w.tasks pid) Why.Exists full a.1 in
-    let c = through (verdict_of w version task) (nat_le most_tasks (length w.tasks)) (Why.TasksFull most_tasks) [] b.1 in
+    let b = through (verdict_of w version) (was_made w.tasks pid) Why.Exists full a.1 in
+    let c = through (verdict_of w version) (nat_le most_tasks (length w.tasks)) (Why.TasksFull most_tasks) [] b.1 in
     let l = length-append w.tasks (task_begun pid (creds_of w task) ∷ []) in
     (refl, omega arith, few_tasks (length w.tasks) c.0, refl)
 effect_makes w version task (Call.Task call) none =
@@ -117,9 +117,9 @@ pub step_makes : (w : World) (version : Ruling) (task : ℕ) (call : Call)
     → MakesNext (length w.tasks) (is_fork_call call) (child_of (step w version task call).reply)
     (length (step w version task call).world.tasks)
 step_makes w version task call =
-    let through = went (verdict_of w version task) (asks w version task call) in
+    let through = went (verdict_of w version) (asks w version task call) in
     stepped_makes w (is_fork_call call) (effect w version task call) through.checks through.stop
-    (went_stops (verdict_of w version task) (asks w version task call)) (effect_makes w version task call)
+    (went_stops (verdict_of w version) (asks w version task call)) (effect_makes w version task call)
 
 next_counts : (n : ℕ) (fork : Bool) (o : Option ℕ) (m : ℕ) → MakesNext n fork o m → m ≡ n + counts world_means o
 next_counts n fork None m h = omega (arith, h)

@@ -3,7 +3,7 @@ ghost use Rattle.rule_fold.specs.Index.{ruling_of};
 ghost use Rattle.rules_spec.specs.Rulings.{Ruling};
 ghost use Rattle.world_spec.specs.Worlds.{creds_of};
 ghost use Rattle.world_spec.specs.Questions.{call_asks, asks};
-ghost use Rattle.world_spec.specs.Steps.{went, verdict_by_creds, verdict_of, effect as effect_of, step};
+ghost use Rattle.world_spec.specs.Steps.{went, verdict_of, effect as effect_of, step};
 ghost use Rattle.world_state.specs.Seen.{world_seen};
 ghost use Rattle.world_state.specs.Judging.{went_in, Passes};
 
@@ -33,7 +33,7 @@ impl Duplicate for Told {
 
 /// What the call of a live task comes to before its effect.
 fn judge_call(alloc: Global, caller: &Caller<'_>, call: &Call) -> Result<Judgement, AllocError>
-    ensures went { IfOk result (λ j. went_in j ≡ went (verdict_by_creds caller.now.cred.now (ruling_of caller.now.rules.now))
+    ensures went { IfOk result (λ j. went_in j ≡ went (verdict_of (world_seen caller.now.state.now) (ruling_of caller.now.rules.now))
         (call_asks (world_seen caller.now.state.now) (ruling_of caller.now.rules.now) caller.now.task caller.now.cred.now call.now)) }
     ensures passes { IfOk result (λ j. j.stop ≡ None
         → Passes (call_asks (world_seen caller.now.state.now) (ruling_of caller.now.rules.now) caller.now.task caller.now.cred.now call.now)) }
@@ -53,7 +53,7 @@ fn judge(
     task: u16,
     call: &Call,
 ) -> Result<Judgement, AllocError>
-    ensures went { IfOk result (λ j. went_in j ≡ went (verdict_of (world_seen state.now) (ruling_of rules.now) task) (asks (world_seen state.now) (ruling_of rules.now) task call.now)) }
+    ensures went { IfOk result (λ j. went_in j ≡ went (verdict_of (world_seen state.now) (ruling_of rules.now)) (asks (world_seen state.now) (ruling_of rules.now) task call.now)) }
     ensures made { IfOk result (λ j. j.stop ≡ None → task < length state.now.tasks) }
     ensures passes { IfOk result (λ j. j.stop ≡ None → Passes (call_asks (world_seen state.now) (ruling_of rules.now) task (creds_of (world_seen state.now) task) call.now)) }
 {

@@ -1,7 +1,10 @@
-ghost use Rattle.std.specs.Prelude.{◌≡◌, None, is_none, IfOk};
+ghost use Rattle.std.specs.Prelude.{◌≡◌, ◌∷◌, [], not, None, IfOk};
 ghost use Rattle.rule_fold.specs.Index.{ruling_of};
-ghost use Rattle.world_spec.specs.Questions.{may_relabel as may_relabel_by, label_of_task};
-ghost use Rattle.world_spec.specs.Steps.{went, verdict_by_creds};
+ghost use Rattle.rules_spec.specs.AskedModes.{write};
+ghost use Rattle.world_spec.specs.Signals.{is_signal as is_signal_number};
+ghost use Rattle.world_spec.specs.Worlds.{creds_of};
+ghost use Rattle.world_spec.specs.Questions.{may_relabel as may_relabel_by, asks_for as asks_for_of};
+ghost use Rattle.world_spec.specs.Steps.{went, verdict_of};
 ghost use Rattle.world_state.specs.Seen.{world_seen};
 ghost use Rattle.world_state.specs.Judging.{went_in, Passes};
 ghost use Rattle.task_calls.specs.Callers.{asks_of};
@@ -26,25 +29,11 @@ const MOST_SELF_RULES: u32 = 256;
 /// The most labels of a relabel list.
 const MOST_RELABELS: u32 = 256;
 
-/// The label of a task; that of the floor where there is none.
-fn label_of(state: &State, task: Option<u16>) -> LabelId
-    ensures { result ≡ label_of_task (world_seen state.now) task }
-{
-    match task {
-        Some(number) => state.label_of(number),
-        None => LabelId::FLOOR,
-    }
-}
-
-/// The call is refused where there is no task to act on.
-fn unless_there(target: Option<u16>) -> Part
-    ensures { result ≡ Part.Refuses (is_none target) Why.NoSuchTask }
-{
-    Part::Refuses {
-        holds: target.is_none(),
-        why: Why::NoSuchTask,
-    }
-}
+/// The call is refused, for there is no task to act on.
+const NO_TASK: Part = Part::Refuses {
+    holds: true,
+    why: Why::NoSuchTask,
+};
 
 fn fork_parts(caller: &Caller<'_>, pid: Pid) -> [Part; 2]
     ensures { result ≡ asks_of caller.now (TaskCall.Fork pid) }
@@ -106,19 +95,38 @@ fn relabels_parts(caller: &Caller<'_>, labels: &Ids) -> [Part; 2]
     ]
 }
 
-fn kill_parts(caller: &Caller<'_>, pid: Pid, sig: u8) -> [Part; 3]
-    ensures { result ≡ asks_of caller.now (TaskCall.Kill pid sig) }
+fn kill_parts(caller: &Caller<'_>, target: u16, sig: u8) -> [Part; 2]
+    ensures { result ≡ asks_for_of caller.now.task caller.now.cred.now write (creds_of (world_seen caller.now.state.now) target).label
+        ∷ Part.Refuses (not (is_signal_number sig)) Why.Range ∷ [] }
 {
-    let target = caller.state.tasks.of_pid(pid);
-    let o = label_of(caller.state, target);
     [
-        unless_there(target),
-        asks_for(WRITE, o),
+        asks_for(caller, WRITE, caller.state.label_of(target)),
         Part::Refuses {
             holds: !is_signal(sig),
             why: Why::Range,
         },
     ]
+}
+
+/// What a signal to the live task of a pid comes to.
+fn judge_kill(
+    alloc: Global,
+    caller: &Caller<'_>,
+    pid: Pid,
+    sig: u8,
+) -> Result<Judgement, AllocError>
+    ensures went { IfOk result (λ j. went_in j ≡ went (verdict_of (world_seen caller.now.state.now) (ruling_of caller.now.rules.now)) (asks_of caller.now (TaskCall.Kill pid sig))) }
+    ensures passes { IfOk result (λ j. j.stop ≡ None → Passes (asks_of caller.now (TaskCall.Kill pid sig))) }
+{
+    match caller.state.tasks.of_pid(pid) {
+        None => judge_parts(alloc, caller.state, caller.rules, &[NO_TASK]),
+        Some(target) => judge_parts(
+            alloc,
+            caller.state,
+            caller.rules,
+            &kill_parts(caller, target, sig),
+        ),
+    }
 }
 
 fn take_parts(caller: &Caller<'_>) -> [Part; 1]
@@ -130,25 +138,37 @@ fn take_parts(caller: &Caller<'_>) -> [Part; 1]
     }]
 }
 
-fn trace_read_parts(caller: &Caller<'_>, pid: Pid) -> [Part; 2]
-    ensures { result ≡ asks_of caller.now (TaskCall.TraceRead pid) }
+/// What reading the live task of a pid comes to.
+fn judge_trace_read(alloc: Global, caller: &Caller<'_>, pid: Pid) -> Result<Judgement, AllocError>
+    ensures went { IfOk result (λ j. went_in j ≡ went (verdict_of (world_seen caller.now.state.now) (ruling_of caller.now.rules.now)) (asks_of caller.now (TaskCall.TraceRead pid))) }
+    ensures passes { IfOk result (λ j. j.stop ≡ None → Passes (asks_of caller.now (TaskCall.TraceRead pid))) }
 {
-    let target = caller.state.tasks.of_pid(pid);
-    let o = label_of(caller.state, target);
-    [unless_there(target), asks_for(READ, o)]
+    match caller.state.tasks.of_pid(pid) {
+        None => judge_parts(alloc, caller.state, caller.rules, &[NO_TASK]),
+        Some(target) => {
+            let part = asks_for(caller, READ, caller.state.label_of(target));
+            judge_parts(alloc, caller.state, caller.rules, &[part])
+        }
+    }
 }
 
-fn trace_attach_parts(caller: &Caller<'_>, pid: Pid) -> [Part; 2]
-    ensures { result ≡ asks_of caller.now (TaskCall.TraceAttach pid) }
+/// What attaching to the live task of a pid comes to.
+fn judge_trace_attach(alloc: Global, caller: &Caller<'_>, pid: Pid) -> Result<Judgement, AllocError>
+    ensures went { IfOk result (λ j. went_in j ≡ went (verdict_of (world_seen caller.now.state.now) (ruling_of caller.now.rules.now)) (asks_of caller.now (TaskCall.TraceAttach pid))) }
+    ensures passes { IfOk result (λ j. j.stop ≡ None → Passes (asks_of caller.now (TaskCall.TraceAttach pid))) }
 {
-    let target = caller.state.tasks.of_pid(pid);
-    let o = label_of(caller.state, target);
-    [
-        unless_there(target),
-        Part::Asks {
-            question: Question::Attach { o },
-        },
-    ]
+    match caller.state.tasks.of_pid(pid) {
+        None => judge_parts(alloc, caller.state, caller.rules, &[NO_TASK]),
+        Some(target) => {
+            let part = Part::Asks {
+                question: Question::Attach {
+                    by: caller.task,
+                    o: caller.state.label_of(target),
+                },
+            };
+            judge_parts(alloc, caller.state, caller.rules, &[part])
+        }
+    }
 }
 
 /// What a call on tasks comes to before its effect.
@@ -157,35 +177,29 @@ pub fn task_judgement(
     caller: &Caller<'_>,
     call: &TaskCall,
 ) -> Result<Judgement, AllocError>
-    ensures went { IfOk result (λ j. went_in j ≡ went (verdict_by_creds caller.now.cred.now (ruling_of caller.now.rules.now)) (asks_of caller.now call.now)) }
+    ensures went { IfOk result (λ j. went_in j ≡ went (verdict_of (world_seen caller.now.state.now) (ruling_of caller.now.rules.now)) (asks_of caller.now call.now)) }
     ensures passes { IfOk result (λ j. j.stop ≡ None → Passes (asks_of caller.now call.now)) }
 {
     let Caller {
-        state: _,
+        state,
         rules,
         task: _,
-        cred,
+        cred: _,
     } = *caller;
     match call {
-        TaskCall::Fork { pid } => judge_parts(alloc, cred, rules, &fork_parts(caller, *pid)),
-        TaskCall::Exit => judge_parts(alloc, cred, rules, &[]),
-        TaskCall::Relabel { l } => judge_parts(alloc, cred, rules, &relabel_parts(caller, *l)),
-        TaskCall::DropCap { cap: _ } => judge_parts(alloc, cred, rules, &[]),
+        TaskCall::Fork { pid } => judge_parts(alloc, state, rules, &fork_parts(caller, *pid)),
+        TaskCall::Exit => judge_parts(alloc, state, rules, &[]),
+        TaskCall::Relabel { l } => judge_parts(alloc, state, rules, &relabel_parts(caller, *l)),
+        TaskCall::DropCap { cap: _ } => judge_parts(alloc, state, rules, &[]),
         TaskCall::SelfRules { rules: more } => {
-            judge_parts(alloc, cred, rules, &self_rules_parts(caller, more)?)
+            judge_parts(alloc, state, rules, &self_rules_parts(caller, more)?)
         }
         TaskCall::Relabels { labels } => {
-            judge_parts(alloc, cred, rules, &relabels_parts(caller, labels))
+            judge_parts(alloc, state, rules, &relabels_parts(caller, labels))
         }
-        TaskCall::Kill { pid, sig } => {
-            judge_parts(alloc, cred, rules, &kill_parts(caller, *pid, *sig))
-        }
-        TaskCall::Take => judge_parts(alloc, cred, rules, &take_parts(caller)),
-        TaskCall::TraceRead { pid } => {
-            judge_parts(alloc, cred, rules, &trace_read_parts(caller, *pid))
-        }
-        TaskCall::TraceAttach { pid } => {
-            judge_parts(alloc, cred, rules, &trace_attach_parts(caller, *pid))
-        }
+        TaskCall::Kill { pid, sig } => judge_kill(alloc, caller, *pid, *sig),
+        TaskCall::Take => judge_parts(alloc, state, rules, &take_parts(caller)),
+        TaskCall::TraceRead { pid } => judge_trace_read(alloc, caller, *pid),
+        TaskCall::TraceAttach { pid } => judge_trace_attach(alloc, caller, *pid),
     }
 }

@@ -1,8 +1,8 @@
 ghost use Rattle.std.specs.Prelude.{◌≡◌, ◌++◌, is_none, None, IfOk, OnOk};
 ghost use Rattle.rule_fold.specs.Index.{ruling_of};
 ghost use Rattle.world_spec.specs.Worlds.{label_of as label_of_name};
-ghost use Rattle.world_spec.specs.Questions.{walk_to_last, walk, first_name as first_of, node_label as node_label_of};
-ghost use Rattle.world_spec.specs.Steps.{went, verdict_by_creds};
+ghost use Rattle.world_spec.specs.Questions.{walk_to_last, first_name as first_of, label_at as label_at_of};
+ghost use Rattle.world_spec.specs.Steps.{went, verdict_of};
 ghost use Rattle.world_state.specs.Seen.{world_seen};
 ghost use Rattle.world_state.specs.Judging.{went_in, Passes};
 ghost use Rattle.tree_calls.specs.Callers.{tree_asks_of};
@@ -16,6 +16,12 @@ use world_state::{Caller, Judgement, ROOT, State, asks_for, judge_parts};
 /// The most nodes of the tree, the root included.
 const MOST_NODES: u32 = 65_536;
 
+/// The call is refused, for there is nothing of the name.
+const NO_NAME: Part = Part::Refuses {
+    holds: true,
+    why: Why::NoSuchName,
+};
+
 /// The first name of a path; `/` has none, and no bytes stand for it.
 pub(crate) fn first_name(names: &[Bytes]) -> &[u8]
     ensures { result.now ≡ first_of names.now }
@@ -26,16 +32,13 @@ pub(crate) fn first_name(names: &[Bytes]) -> &[u8]
     }
 }
 
-/// The label of the node of a path.
-fn node_label(state: &State, names: &[Bytes]) -> LabelId
-    ensures { result ≡ node_label_of (world_seen state.now) names.now }
+/// The label of the node that the first name of a path leads to, where there is one.
+fn label_at(state: &State, names: &[Bytes]) -> Option<LabelId>
+    ensures { result ≡ label_at_of (world_seen state.now) names.now }
 {
     match names {
-        [] => ROOT,
-        [name, ..] => match state.files.label_of(name.items()) {
-            Some(l) => l,
-            None => LabelId::FLOOR,
-        },
+        [] => Some(ROOT),
+        [name, ..] => state.files.label_of(name.items()),
     }
 }
 
@@ -46,16 +49,21 @@ fn is_missing(state: &State, name: &[u8]) -> bool
 }
 
 /// Adds the walk to the directory that has the last name of a path.
-fn put_walk_to_last(parts: &mut Vec<Part>, state: &State, names: &[Bytes]) -> Result<(), AllocError>
-    ensures { OnOk result (parts.new.items ≡ parts.old.items ++ walk_to_last (world_seen state.now) names.now) }
+fn put_walk_to_last(
+    parts: &mut Vec<Part>,
+    caller: &Caller<'_>,
+    names: &[Bytes],
+) -> Result<(), AllocError>
+    ensures { OnOk result (parts.new.items ≡ parts.old.items
+        ++ walk_to_last (world_seen caller.now.state.now) caller.now.task caller.now.cred.now names.now) }
 {
     match names {
         [] => Ok(()),
-        [_] => parts.extend_from_slice(&[asks_for(EXECUTE, ROOT)]),
+        [_] => parts.extend_from_slice(&[asks_for(caller, EXECUTE, ROOT)]),
         [first, _, ..] => parts.extend_from_slice(&[
-            asks_for(EXECUTE, ROOT),
+            asks_for(caller, EXECUTE, ROOT),
             Part::Refuses {
-                holds: is_missing(state, first.items()),
+                holds: is_missing(caller.state, first.items()),
                 why: Why::NoSuchName,
             },
             Part::Refuses {
@@ -63,23 +71,6 @@ fn put_walk_to_last(parts: &mut Vec<Part>, state: &State, names: &[Bytes]) -> Re
                 why: Why::NotDirectory,
             },
         ]),
-    }
-}
-
-/// Adds the walk of a whole path.
-fn put_walk(parts: &mut Vec<Part>, state: &State, names: &[Bytes]) -> Result<(), AllocError>
-    ensures { OnOk result (parts.new.items ≡ parts.old.items ++ walk (world_seen state.now) names.now) }
-{
-    match names {
-        [] => Ok(()),
-        [name] => parts.extend_from_slice(&[
-            asks_for(EXECUTE, ROOT),
-            Part::Refuses {
-                holds: is_missing(state, name.items()),
-                why: Why::NoSuchName,
-            },
-        ]),
-        [_, _, ..] => put_walk_to_last(parts, state, names),
     }
 }
 
@@ -94,9 +85,9 @@ fn create_parts(alloc: Global, caller: &Caller<'_>, path: &Path) -> Result<Vec<P
             why: Why::IsRoot,
         }],
     )?;
-    put_walk_to_last(&mut parts, caller.state, names)?;
+    put_walk_to_last(&mut parts, caller, names)?;
     parts.extend_from_slice(&[
-        asks_for(READ_WRITE, ROOT),
+        asks_for(caller, READ_WRITE, ROOT),
         Part::Refuses {
             holds: !is_missing(caller.state, first_name(names)),
             why: Why::Exists,
@@ -120,10 +111,14 @@ fn unlink_parts(alloc: Global, caller: &Caller<'_>, path: &Path) -> Result<Vec<P
             why: Why::IsRoot,
         }],
     )?;
-    put_walk(&mut parts, caller.state, names)?;
+    put_walk_to_last(&mut parts, caller, names)?;
+    let Some(l) = label_at(caller.state, names) else {
+        parts.push(NO_NAME)?;
+        return Ok(parts);
+    };
     parts.extend_from_slice(&[
-        asks_for(READ_WRITE, ROOT),
-        asks_for(READ_WRITE, node_label(caller.state, names)),
+        asks_for(caller, READ_WRITE, ROOT),
+        asks_for(caller, READ_WRITE, l),
     ])?;
     Ok(parts)
 }
@@ -133,9 +128,13 @@ fn list_parts(alloc: Global, caller: &Caller<'_>, path: &Path) -> Result<Vec<Par
 {
     let names = path.names();
     let mut parts = Vec::new(alloc);
-    put_walk(&mut parts, caller.state, names)?;
+    put_walk_to_last(&mut parts, caller, names)?;
+    let Some(l) = label_at(caller.state, names) else {
+        parts.push(NO_NAME)?;
+        return Ok(parts);
+    };
     parts.extend_from_slice(&[
-        asks_for(READ, node_label(caller.state, names)),
+        asks_for(caller, READ, l),
         Part::Refuses {
             holds: !names.is_empty(),
             why: Why::NotDirectory,
@@ -150,7 +149,7 @@ pub fn tree_judgement(
     caller: &Caller<'_>,
     call: &TreeCall,
 ) -> Result<Judgement, AllocError>
-    ensures went { IfOk result (λ j. went_in j ≡ went (verdict_by_creds caller.now.cred.now (ruling_of caller.now.rules.now)) (tree_asks_of caller.now call.now)) }
+    ensures went { IfOk result (λ j. went_in j ≡ went (verdict_of (world_seen caller.now.state.now) (ruling_of caller.now.rules.now)) (tree_asks_of caller.now call.now)) }
     ensures passes { IfOk result (λ j. j.stop ≡ None → Passes (tree_asks_of caller.now call.now)) }
 {
     let parts = match call {
@@ -158,5 +157,5 @@ pub fn tree_judgement(
         TreeCall::Unlink { path } => unlink_parts(alloc, caller, path)?,
         TreeCall::ListDir { path, at: _ } => list_parts(alloc, caller, path)?,
     };
-    judge_parts(alloc, caller.cred, caller.rules, parts.as_slice())
+    judge_parts(alloc, caller.state, caller.rules, parts.as_slice())
 }

@@ -60,5 +60,5 @@ stepped_keeps w k e checks None keeps unmade = keeps unmade
 
 pub others_keep : OthersKeepCreds
 others_keep w version task k call apart unmade =
-    let through = went (verdict_of w version task) (asks w version task call) in
+    let through = went (verdict_of w version) (asks w version task call) in
     stepped_keeps w k (effect w version task call) through.checks through.stop (effect_keeps w version task k call apart) unmade

@@ -41,14 +41,10 @@ went verdict [] = record { checks = []; stop = None }
 went verdict (Part.Refuses holds why ∷ more) = if holds then record { checks = []; stop = Some (Reply.Refused why) } else went verdict more
 went verdict (Part.Asks question ∷ more) = asked (verdict question) (went verdict more)
 
--- the verdict of a question of a task with these credentials
-unfoldable pub verdict_by_creds : Creds → Ruling → Question → Verdict
-verdict_by_creds c version (Question.Own o m) = full_verdict c version c.label o m
-verdict_by_creds c version (Question.Attach o) = attach_verdict c version o
-
--- the verdict of a question of a task
-abbrev pub verdict_of : World → Ruling → ℕ → Question → Verdict
-verdict_of w version task = verdict_by_creds (creds_of w task) version
+-- the verdict of a question in a version
+unfoldable pub verdict_of : World → Ruling → Question → Verdict
+verdict_of w version (Question.Full by s o m) = full_verdict (creds_of w by) version s o m
+verdict_of w version (Question.Attach by o) = attach_verdict (creds_of w by) version o
 
 -- the most names of one listing
 abbrev pub most_names : ℕ
@@ -163,5 +159,5 @@ stepped w e checks None = record { world = e.world; checks = checks; reply = e.r
 
 -- the step of a call of a task in a rule version
 abbrev pub step : World → Ruling → ℕ → Call → Stepped
-step w version task call = let through = went (verdict_of w version task) (asks w version task call) in
+step w version task call = let through = went (verdict_of w version) (asks w version task call) in
     stepped w (effect w version task call) through.checks through.stop

@@ -123,10 +123,6 @@ is_named name r = bytes_eq r.name name
 abbrev pub label_of : List FileRow → List ℕ → Option LabelId
 label_of files name = option_map (λ r. r.label) (find (is_named name) files)
 
-abbrev pub label_or_floor : Option LabelId → LabelId
-label_or_floor None = floor
-label_or_floor (Some l) = l
-
 -- a file more
 abbrev pub with_file : List FileRow → FileRow → List FileRow
 with_file files f = files ++ f ∷ []

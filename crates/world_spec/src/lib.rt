@@ -118,10 +118,19 @@ impl Duplicate for Call {
 /// What a call asks before it is done.
 #[derive(Clone, Copy, PartialEq, Eq)]
 pub enum Question {
-    /// The caller, with its own label, asks for modes on an object with this label.
-    Own { o: LabelId, m: Modes },
-    /// The caller asks to attach by ptrace to a task with this label.
-    Attach { o: LabelId },
+    /// A subject with the label `s` asks for modes on an object with the label `o`, and is judged
+    /// with the credentials of the task of number `by`.
+    Full {
+        by: u16,
+        s: LabelId,
+        o: LabelId,
+        m: Modes,
+    },
+    /// The task of number `by` asks to attach by ptrace to a task with the label `o`.
+    Attach {
+        by: u16,
+        o: LabelId,
+    },
 }
 
 /// A part of a call, before its effect.
