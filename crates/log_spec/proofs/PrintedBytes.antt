@@ -1,12 +1,12 @@
-use Rattle.std.proofs.Common.{◌≡◌, ◌≤◌, ◌+◌, ℕ, suc, Bool, true, false, ◌&&◌, not, ◌==◌, cond, nat_lt, nat_le, is_none, length, List, [], ◌∷◌, ◌++◌, Option, Some, None, position, option_map, refl, ap, arith}
-use Rattle.std.specs.List.{list_all, position_or_len}
+use Rattle.std.proofs.Common.{◌≡◌, ◌≤◌, ◌+◌, ℕ, suc, Bool, true, false, ◌&&◌, not, ◌==◌, cond, nat_lt, nat_le, is_none, length, List, [], ◌∷◌, ◌++◌, Option, Some, None, position, option_map, fold, refl, ap, ◌∙◌, arith}
+use Rattle.std.specs.List.{list_all, position_or_len, zip}
 use Rattle.std.proofs.lemmas.Bool.{and_parts, and_from, ltb-false, le-leb, leb-true}
 use Rattle.std.proofs.lemmas.List.Folds.{list_all-append}
 use Rattle.smack_base.specs.declared.modes.Modes.{Modes}
 use Rattle.smack_base.specs.declared.label.LabelFault.TheVariants as LabelFault
 use Rattle.smack_base.specs.declared.path.PathFault.TheVariants as PathFault
 use Rattle.smack_base.specs.Labels.{is_label, is_label_byte, begins_with_dash}
-use Rattle.smack_base.specs.Modes.{letters_of, when, or_dash, letter_r, letter_w, letter_x, letter_a, letter_t, letter_b}
+use Rattle.smack_base.specs.Modes.{mode_letters, flags_of, letters_of, when, or_dash}
 use Rattle.smack_base.specs.Paths.{PathName, is_name_byte, is_dots, name_fault}
 use Rattle.log_spec.specs.Numerals.{numeral}
 use Rattle.log_spec.proofs.Numerals.{is_digit, numeral_digits}
@@ -73,25 +73,18 @@ of_or_dash : (text : List ℕ) → list_all is_name_byte text ≡ true → list_
 of_or_dash [] all = refl
 of_or_dash (b ∷ bs) all = all
 
-of_letters : (m : Modes)
-    → list_all is_name_byte (when m.read letter_r ++ when m.write letter_w ++ when m.execute letter_x
-    ++ when m.append letter_a ++ when m.transmute letter_t ++ when m.bring_up letter_b) ≡ true
-of_letters m =
-    simp (
-      list_all-append,
-      of_letter m.read letter_r refl,
-      of_letter m.write letter_w refl,
-      of_letter m.execute letter_x refl,
-      of_letter m.append letter_a refl,
-      of_letter m.transmute letter_t refl,
-      of_letter m.bring_up letter_b refl,
-    ) refl
+-- letters that stand behind a text, each where its flag is set
+of_letters : (letters : List ℕ) (flags : List Bool) (text : List ℕ) → list_all is_name_byte letters ≡ true → list_all is_name_byte text ≡ true
+    → list_all is_name_byte (fold (λ text p. text ++ when p.1 p.0) text (zip letters flags)) ≡ true
+of_letters [] flags text are all = all
+of_letters (l ∷ ls) [] text are all = all
+of_letters (l ∷ ls) (b ∷ bs) text are all =
+    let parts = and_parts (is_name_byte l) (list_all is_name_byte ls) are in
+    of_letters ls bs (text ++ when b l) parts.1 (list_all-append is_name_byte text (when b l) ∙ and_from _ _ all (of_letter b l parts.0))
 
 -- the letters of a mode set, and the dash, are from ! to ~
 pub letter_bytes : (m : Modes) → list_all is_name_byte (letters_of m) ≡ true
-letter_bytes m =
-    of_or_dash (when m.read letter_r ++ when m.write letter_w ++ when m.execute letter_x
-    ++ when m.append letter_a ++ when m.transmute letter_t ++ when m.bring_up letter_b) (of_letters m)
+letter_bytes m = of_or_dash (fold (λ text p. text ++ when p.1 p.0) [] (zip mode_letters (flags_of m))) (of_letters mode_letters (flags_of m) [] refl refl)
 
 digit_byte : (b : ℕ) → is_digit b ≡ true → is_name_byte b ≡ true
 digit_byte b is =

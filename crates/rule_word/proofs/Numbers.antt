@@ -1,7 +1,8 @@
 use Rattle.std.proofs.Common.{◌≡◌, ℕ, ◌+◌, ◌*◌, ◌/◌, ◌%◌, ◌<◌, ◌==◌, Bool, true, false, List, [], ◌∷◌, length, refl, ap, ap₂, ◌∙◌, arith}
 use Rattle.smack_base.specs.declared.modes.Modes.{Modes}
-use Rattle.rule_word.specs.Layout.{worth, flags_of, flags_number, modes_number}
-use Rattle.rule_word.specs.Fields.{flags_in, modes_by, modes_of_number}
+use Rattle.smack_base.specs.Modes.{flags_of, modes_by}
+use Rattle.rule_word.specs.Layout.{worth, flags_number, modes_number}
+use Rattle.rule_word.specs.Fields.{flags_in, modes_of_number}
 
 -- the lowest bit of a number is its first flag, and what is left of it is the number of the others
 first_back : (flag : Bool) (n : ℕ) → ((worth flag 1 + 2 * n) % 2 == 1) ≡ flag

@@ -1,5 +1,6 @@
-use Rattle.std.specs.Prelude.{ℕ, zero, suc, ◌/◌, ◌%◌, ◌^◌, ◌==◌, Bool, false, if◌then◌else◌, List, [], ◌∷◌, Option, Some, None, slice_index_or}
+use Rattle.std.specs.Prelude.{ℕ, zero, suc, ◌/◌, ◌%◌, ◌^◌, ◌==◌, Bool, if◌then◌else◌, List, [], ◌∷◌, Option, Some, None, length}
 use Rattle.smack_base.specs.declared.modes.Modes.{Modes}
+use Rattle.smack_base.specs.Modes.{mode_letters, modes_by}
 use Rattle.smack_base.specs.declared.ids.LabelId.{LabelId}
 use Rattle.smack_base.specs.declared.rule_op.RuleOp.{RuleOp}
 
@@ -24,20 +25,9 @@ abbrev pub flags_in : ℕ → ℕ → List Bool
 flags_in zero n = []
 flags_in (suc k) n = (n % 2 == 1) ∷ flags_in k (n / 2)
 
--- the set of modes with these flags
-abbrev pub modes_by : List Bool → Modes
-modes_by flags = record {
-  read = slice_index_or flags 0 false;
-  write = slice_index_or flags 1 false;
-  execute = slice_index_or flags 2 false;
-  append = slice_index_or flags 3 false;
-  transmute = slice_index_or flags 4 false;
-  bring_up = slice_index_or flags 5 false;
-}
-
 -- the modes of a number, whatever stands above its six lowest bits
 abbrev pub modes_of_number : ℕ → Modes
-modes_of_number n = modes_by (flags_in 6 n)
+modes_of_number n = modes_by (flags_in (length mode_letters) n)
 
 abbrev pub label_of_number : ℕ → LabelId
 label_of_number n = record { 0 = n }

@@ -1,5 +1,6 @@
 use Rattle.std.specs.Prelude.{ℕ, ◌+◌, ◌*◌, ◌^◌, ◌<◌, ◌≤◌, Bool, if◌then◌else◌, List, [], ◌∷◌}
 use Rattle.smack_base.specs.declared.modes.Modes.{Modes}
+use Rattle.smack_base.specs.Modes.{flags_of}
 use Rattle.smack_base.specs.declared.ids.LabelId.{LabelId}
 use Rattle.smack_base.specs.declared.rule_op.RuleOp.{RuleOp}
 
@@ -7,16 +8,12 @@ use Rattle.smack_base.specs.declared.rule_op.RuleOp.{RuleOp}
 abbrev pub worth : Bool → ℕ → ℕ
 worth flag n = if flag then n else 0
 
--- the flags of a set of modes, by the bits 1, 2, 4 .. of its number
-abbrev pub flags_of : Modes → List Bool
-flags_of m = m.read ∷ m.write ∷ m.execute ∷ m.append ∷ m.transmute ∷ m.bring_up ∷ []
-
 -- flags as a number, the first as its lowest bit
 abbrev pub flags_number : List Bool → ℕ
 flags_number [] = 0
 flags_number (flag ∷ flags) = worth flag 1 + 2 * flags_number flags
 
--- a set of modes as a number below 64
+-- a set of modes as a number below 64: the bits 1, 2, 4 .. are those of the letters r, w, x ..
 abbrev pub modes_number : Modes → ℕ
 modes_number m = flags_number (flags_of m)
 

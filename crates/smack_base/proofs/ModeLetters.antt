@@ -1,10 +1,10 @@
-use Rattle.std.proofs.Common.{◌≡◌, ◌<◌, ◌≤◌, ◌+◌, ℕ, Bool, true, false, ◌||◌, cond, not, List, [], ◌∷◌, length, take, drop, get_or, refl, sym, ap, ◌∙◌, Some, None}
+use Rattle.std.proofs.Common.{◌≡◌, ◌<◌, ◌≤◌, ◌+◌, ℕ, Bool, true, false, ◌||◌, cond, not, List, [], ◌∷◌, length, take, drop, get_or, map, refl, sym, ap, ◌∙◌, Some, None}
 use Rattle.std.specs.List.{position_from}
 use Rattle.std.proofs.lemmas.List.{take_all, at_drop_more, at_drop_all}
 use Rattle.std.proofs.lemmas.List.Folds.{list_any_more}
 use Rattle.std.proofs.lemmas.Iterator.Adapters.{position_from-zero}
 use Rattle.smack_base.specs.declared.modes.Modes.{Modes}
-use Rattle.smack_base.specs.Modes.{letter_r, letter_w, letter_x, letter_a, letter_t, letter_b, is_letter, is_either_case, has_letter, bad_letter, modes_of, union}
+use Rattle.smack_base.specs.Modes.{mode_letters, modes_by, is_letter, is_either_case, has_letter, bad_letter, modes_of, union}
 
 or_nothing : (b : Bool) → (b || false) ≡ b
 or_nothing true = refl
@@ -13,14 +13,7 @@ or_nothing false = refl
 -- one more letter
 pub letters_more : (text : List ℕ) (n : ℕ) (m : Modes) → n < length text → m ≡ modes_of (take n text)
     → union m (modes_of (get_or text n 0 ∷ [])) ≡ modes_of (take (n + 1) text)
-letters_more text n m within is = ap (λ (m : Modes). union m (modes_of (get_or text n 0 ∷ []))) is ∙ (λ i. record {
-  read = more letter_r i;
-  write = more letter_w i;
-  execute = more letter_x i;
-  append = more letter_a i;
-  transmute = more letter_t i;
-  bring_up = more letter_b i;
-})
+letters_more text n m within is = ap (λ (m : Modes). union m (modes_of (get_or text n 0 ∷ []))) is ∙ (λ i. modes_by (map (λ small. more small i) mode_letters))
   where
     more : (small : ℕ) → (has_letter small (take n text) || has_letter small (get_or text n 0 ∷ [])) ≡ has_letter small (take (n + 1) text)
     more small =

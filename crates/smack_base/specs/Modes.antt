@@ -1,5 +1,5 @@
-use Rattle.std.specs.Prelude.{◌+◌, ℕ, Bool, true, false, ◌||◌, ◌&&◌, not, ◌==◌, if◌then◌else◌, List, [], ◌∷◌, ◌++◌, Option, position, is_none}
-use Rattle.std.specs.List.{list_any}
+use Rattle.std.specs.Prelude.{◌+◌, ℕ, Bool, true, false, ◌||◌, ◌&&◌, not, ◌==◌, if◌then◌else◌, List, [], ◌∷◌, ◌++◌, Option, position, is_none, fold, map, slice_index_or}
+use Rattle.std.specs.List.{list_any, zip}
 use Rattle.smack_base.specs.declared.modes.Modes.{Modes}
 
 -- the small letters of the modes, and the dash that stands for none
@@ -24,15 +24,31 @@ letter_b = 98
 abbrev pub dash : ℕ
 dash = 45
 
+-- The modes as a table: their letters in the order in which they are printed, and the flags of a set in that order; the
+-- set with these flags, where those that lack are not set.
+abbrev pub mode_letters : List ℕ
+mode_letters = letter_r ∷ letter_w ∷ letter_x ∷ letter_a ∷ letter_t ∷ letter_b ∷ []
+
+abbrev pub flags_of : Modes → List Bool
+flags_of m = m.read ∷ m.write ∷ m.execute ∷ m.append ∷ m.transmute ∷ m.bring_up ∷ []
+
+abbrev pub modes_by : List Bool → Modes
+modes_by flags = record {
+  read = slice_index_or flags 0 false;
+  write = slice_index_or flags 1 false;
+  execute = slice_index_or flags 2 false;
+  append = slice_index_or flags 3 false;
+  transmute = slice_index_or flags 4 false;
+  bring_up = slice_index_or flags 5 false;
+}
+
 -- the byte is this small letter, in either case
 abbrev pub is_either_case : ℕ → ℕ → Bool
 is_either_case small b = (b == small) || (b + 32 == small)
 
 -- a mode letter or the dash
 abbrev pub is_letter : ℕ → Bool
-is_letter b =
-    is_either_case letter_r b || is_either_case letter_w b || is_either_case letter_x b || is_either_case letter_a b
-    || is_either_case letter_t b || is_either_case letter_b b || (b == dash)
+is_letter b = fold (λ any small. any || is_either_case small b) false mode_letters || (b == dash)
 
 -- whether a letter stands in a text, in either case
 abbrev pub has_letter : ℕ → List ℕ → Bool
@@ -48,50 +64,31 @@ is_modes text = is_none (bad_letter text)
 
 -- the set of the letters that stand in a text
 abbrev pub modes_of : List ℕ → Modes
-modes_of text = record {
-  read = has_letter letter_r text;
-  write = has_letter letter_w text;
-  execute = has_letter letter_x text;
-  append = has_letter letter_a text;
-  transmute = has_letter letter_t text;
-  bring_up = has_letter letter_b text;
-}
+modes_of text = modes_by (map (λ small. has_letter small text) mode_letters)
 
 -- no access
 abbrev pub no_modes : Modes
-no_modes = record { read = false; write = false; execute = false; append = false; transmute = false; bring_up = false }
+no_modes = modes_by []
 
 -- read and execute
 abbrev pub read_execute : Modes
 read_execute = record no_modes { read = true; execute = true }
 
+-- the answer to a question on each mode, asked of two sets
+abbrev pub mode_by_mode : (Bool → Bool → Bool) → Modes → Modes → List Bool
+mode_by_mode f m n = map (λ p. f p.0 p.1) (zip (flags_of m) (flags_of n))
+
 -- m has every mode of n
 abbrev pub holds : Modes → Modes → Bool
-holds m n =
-    (not n.read || m.read) && (not n.write || m.write) && (not n.execute || m.execute)
-    && (not n.append || m.append) && (not n.transmute || m.transmute) && (not n.bring_up || m.bring_up)
+holds m n = fold (λ all held. all && held) true (mode_by_mode (λ a b. not b || a) m n)
 
 -- the modes of m or n
 abbrev pub union : Modes → Modes → Modes
-union m n = record {
-  read = m.read || n.read;
-  write = m.write || n.write;
-  execute = m.execute || n.execute;
-  append = m.append || n.append;
-  transmute = m.transmute || n.transmute;
-  bring_up = m.bring_up || n.bring_up;
-}
+union m n = modes_by (mode_by_mode (λ a b. a || b) m n)
 
 -- the modes of m that are not in n
 abbrev pub without : Modes → Modes → Modes
-without m n = record {
-  read = m.read && not n.read;
-  write = m.write && not n.write;
-  execute = m.execute && not n.execute;
-  append = m.append && not n.append;
-  transmute = m.transmute && not n.transmute;
-  bring_up = m.bring_up && not n.bring_up;
-}
+without m n = modes_by (mode_by_mode (λ a b. a && not b) m n)
 
 -- the letter, where it is wanted
 abbrev pub when : Bool → ℕ → List ℕ
@@ -104,6 +101,4 @@ or_dash (b ∷ bs) = b ∷ bs
 
 -- the letters of a set in the order rwxatb, or a dash
 abbrev pub letters_of : Modes → List ℕ
-letters_of m =
-    or_dash (when m.read letter_r ++ when m.write letter_w ++ when m.execute letter_x
-    ++ when m.append letter_a ++ when m.transmute letter_t ++ when m.bring_up letter_b)
+letters_of m = or_dash (fold (λ text p. text ++ when p.1 p.0) [] (zip mode_letters (flags_of m)))

@@ -1,7 +1,9 @@
 use Rattle.std.proofs.Common.{◌≡◌, ℕ, Bool, true, false, ◌&&◌, ◌||◌, List, [], ◌∷◌, ◌++◌, refl, ap, ◌∙◌}
+use Rattle.std.specs.Prelude.{fold}
+use Rattle.std.specs.List.{zip}
 use Rattle.std.proofs.lemmas.List.Folds.{list_any-append}
 use Rattle.smack_base.specs.declared.modes.Modes.{Modes}
-use Rattle.smack_base.specs.Modes.{letter_r, letter_w, letter_x, letter_a, letter_t, letter_b, is_either_case, has_letter, modes_of, when, or_dash, letters_of}
+use Rattle.smack_base.specs.Modes.{letter_r, letter_w, letter_x, letter_a, letter_t, letter_b, mode_letters, flags_of, is_either_case, has_letter, modes_of, when, or_dash, letters_of}
 use Rattle.log_spec.proofs.PrintedBytes.{letter_bytes}
 use Rattle.text_laws.proofs.Clean.{is_clean, name_bytes_clean}
 
@@ -31,22 +33,22 @@ beside_dash : (small : ℕ) (text : List ℕ) → is_either_case small 45 ≡ fa
 beside_dash small [] other = ap (λ b. b || false) other
 beside_dash small (b ∷ bs) other = refl
 
--- whether a mode of a set has this letter
-abbrev any_letter : ℕ → Modes → Bool
-any_letter small m =
-    (((((m.read && is_either_case small letter_r) || (m.write && is_either_case small letter_w)) || (m.execute && is_either_case small letter_x))
-    || (m.append && is_either_case small letter_a)) || (m.transmute && is_either_case small letter_t)) || (m.bring_up && is_either_case small letter_b)
+-- whether a letter is one of these whose flags are set, or stands in front of them
+abbrev any_letter : ℕ → List ℕ → List Bool → Bool → Bool
+any_letter small letters flags front = fold (λ any p. any || (p.1 && is_either_case small p.0)) front (zip letters flags)
+
+-- a letter that stands in a text, with letters behind it, each where its flag is set
+letter_behind : (small : ℕ) (letters : List ℕ) (flags : List Bool) (text : List ℕ)
+    → has_letter small (fold (λ text p. text ++ when p.1 p.0) text (zip letters flags)) ≡ any_letter small letters flags (has_letter small text)
+letter_behind small [] flags text = refl
+letter_behind small (l ∷ ls) [] text = refl
+letter_behind small (l ∷ ls) (b ∷ bs) text =
+    letter_behind small ls bs (text ++ when b l) ∙ ap (any_letter small ls bs) (letter_added small l text b)
 
 -- the letters of a printed set are those of its modes
-letter_stands : (small : ℕ) (m : Modes) → is_either_case small 45 ≡ false → has_letter small (letters_of m) ≡ any_letter small m
-letter_stands small m other =
-    beside_dash small _ other
-    ∙ (letter_added small letter_b _ m.bring_up
-    ∙ ap (λ b. b || (m.bring_up && is_either_case small letter_b)) (letter_added small letter_t _ m.transmute
-    ∙ ap (λ b. b || (m.transmute && is_either_case small letter_t)) (letter_added small letter_a _ m.append
-    ∙ ap (λ b. b || (m.append && is_either_case small letter_a)) (letter_added small letter_x _ m.execute
-    ∙ ap (λ b. b || (m.execute && is_either_case small letter_x)) (letter_added small letter_w (when m.read letter_r) m.write
-    ∙ ap (λ b. b || (m.write && is_either_case small letter_w)) (letter_alone small letter_r m.read))))))
+letter_stands : (small : ℕ) (m : Modes) → is_either_case small 45 ≡ false
+    → has_letter small (letters_of m) ≡ any_letter small mode_letters (flags_of m) false
+letter_stands small m other = beside_dash small (fold (λ text p. text ++ when p.1 p.0) [] (zip mode_letters (flags_of m))) other ∙ letter_behind small mode_letters (flags_of m) []
 
 -- a printed mode set tells the set
 pub modes_read : (m : Modes) → modes_of (letters_of m) ≡ m
@@ -59,7 +61,7 @@ modes_read m = λ i. record {
   bring_up = here letter_b m.bring_up refl (simp (and_yes, and_no, or_nothing) refl) i;
 }
   where
-    here : (small : ℕ) (on : Bool) → is_either_case small 45 ≡ false → any_letter small m ≡ on → has_letter small (letters_of m) ≡ on
+    here : (small : ℕ) (on : Bool) → is_either_case small 45 ≡ false → any_letter small mode_letters (flags_of m) false ≡ on → has_letter small (letters_of m) ≡ on
     here small on other is = letter_stands small m other ∙ is
 
 -- the letters and the dash are neither spaces nor line feeds
