@@ -1,6 +1,5 @@
 use Rattle.std.specs.Prelude.{◌≡◌, ◌<◌, ℕ}
 use Rattle.task_creds.specs.declared.fault.CredFault.{CredFault}
-use Rattle.task_creds.specs.declared.fault.CredFault.TheVariants as CredFault
 use Rattle.rules_spec.specs.Creds.{most_self_rules, most_relabels}
 
 -- the fault of a call after which this many self rules would stand: too many, or want of memory

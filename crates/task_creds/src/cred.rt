@@ -4,13 +4,14 @@ ghost use Rattle.task_creds.specs.SelfRules.{ArePairsApart};
 ghost use Rattle.task_creds.specs.Limits.{IsSelfFault, IsRelabelFault};
 
 use crate::fault::CredFault;
+use crate::room::{CredRoom, fill};
 use crate::self_rules::{is_full, joined, modes_of, with_more};
 use smack_base::{Cap, Duplicate, Ids, LabelId, Modes, Pair, Pairs};
 use std::alloc::{AllocError, Global};
 use std::marker::Model;
 
 /// How many labels a relabel list has at most.
-const MOST_RELABELS: u32 = 256;
+pub(crate) const MOST_RELABELS: u32 = 256;
 
 /// The credentials of a task.
 #[derive(Drop)]
@@ -195,6 +196,26 @@ impl Cred {
         ensures { self.new ≡ record self.old { relabels = [] } }
     {
         self.relabels.clear();
+    }
+
+    /// A copy in memory that was found before; takes none.
+    pub fn copy_into(&self, room: CredRoom) -> Cred
+        ensures { result ≡ self.now }
+    {
+        let CredRoom {
+            mut self_rules,
+            mut relabels,
+        } = room;
+        fill(&mut self_rules, self.self_rules.as_slice());
+        fill(&mut relabels, self.relabels.as_slice());
+        Cred {
+            label: self.label,
+            mac_admin: self.mac_admin,
+            mac_override: self.mac_override,
+            sys_ptrace: self.sys_ptrace,
+            self_rules,
+            relabels,
+        }
     }
 }
 

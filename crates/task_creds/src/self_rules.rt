@@ -8,7 +8,7 @@ use smack_base::{LabelId, Modes, Pair};
 use std::alloc::AllocError;
 
 /// How many self rules a task has at most.
-const MOST_SELF_RULES: u32 = 256;
+pub(crate) const MOST_SELF_RULES: u32 = 256;
 
 fn place_of(rules: &[Pair], s: LabelId, o: LabelId) -> Option<usize>
     ensures place { result ≡ position (λ p. same_pair p.s p.o s o) rules.now }
