@@ -1,4 +1,4 @@
-ghost use Rattle.std.specs.Prelude.{◌≡◌, ◌<◌, None, length, IfOk, OnOk, OnErr};
+ghost use Rattle.std.specs.Prelude.{◌≡◌, ◌<◌, None, false, length, is_some, IfOk, OnOk, OnErr, MatchOption};
 ghost use Rattle.rule_fold.specs.Index.{ruling_of};
 ghost use Rattle.rules_spec.specs.Rulings.{Ruling};
 ghost use Rattle.world_spec.specs.Worlds.{creds_of};
@@ -6,14 +6,17 @@ ghost use Rattle.world_spec.specs.Questions.{call_asks, asks};
 ghost use Rattle.world_spec.specs.Steps.{went, verdict_of, effect as effect_of, step};
 ghost use Rattle.world_state.specs.Seen.{world_seen};
 ghost use Rattle.world_state.specs.Judging.{went_in, Passes};
+ghost use Rattle.smack_world.specs.Renewing.{task_renews as task_renews_by, renews as renews_by};
+ghost use Rattle.smack_world.specs.Stepping.{HandsOut};
 
 use rule_fold::RuleIndex;
 use rules_spec::Checks;
 use smack_base::Duplicate;
 use std::alloc::{AllocError, Global};
 use task_calls::{task_effect, task_judgement, task_reply};
+use task_creds::{Cred, CredRoom};
 use tree_calls::{tree_answer, tree_effect, tree_judgement};
-use world_spec::{Call, Reply, Why};
+use world_spec::{Call, Reply, TaskCall, Why};
 use world_state::{Caller, Judgement, State};
 
 /// What a caller is told of a call: the verdicts that were asked, and the reply.
@@ -29,6 +32,15 @@ impl Duplicate for Told {
         let reply = self.reply.copy()?;
         Ok(Told { checks, reply })
     }
+}
+
+/// What came of a call: what its caller is told, a copy of that for the trail, and the credentials
+/// that the caller has after it, where the call may have renewed them.
+#[derive(Drop)]
+pub(crate) struct Acted {
+    pub(crate) told: Told,
+    pub(crate) kept: Told,
+    pub(crate) creds: Option<Cred>,
 }
 
 /// What the call of a live task comes to before its effect.
@@ -103,7 +115,58 @@ fn effect(
     }
 }
 
-/// What is told of a call that goes through, and a copy of it; the effect comes last.
+/// Whether a call on tasks may leave its caller with other credentials.
+fn task_renews(call: &TaskCall) -> bool
+    ensures { result ≡ task_renews_by call.now }
+{
+    match call {
+        TaskCall::Fork { pid: _ } => false,
+        TaskCall::Exit => false,
+        TaskCall::Relabel { l: _ } => true,
+        TaskCall::DropCap { cap: _ } => true,
+        TaskCall::SelfRules { rules: _ } => true,
+        TaskCall::Relabels { labels: _ } => true,
+        TaskCall::Kill { pid: _, sig: _ } => false,
+        TaskCall::Take => false,
+        TaskCall::TraceRead { pid: _ } => false,
+        TaskCall::TraceAttach { pid: _ } => false,
+    }
+}
+
+/// Whether a call may leave its caller with other credentials.
+fn renews(call: &Call) -> bool
+    ensures { result ≡ renews_by call.now }
+{
+    match call {
+        Call::Task(call) => task_renews(call),
+        Call::Tree(_) => false,
+    }
+}
+
+/// Finds the memory for the credentials that a call may leave its caller with.
+fn find_room(alloc: Global, call: &Call) -> Result<Option<CredRoom>, AllocError>
+    ensures { IfOk result (λ room. is_some room ≡ renews_by call.now) }
+{
+    if renews(call) {
+        let room = CredRoom::new(alloc)?;
+        Ok(Some(room))
+    } else {
+        Ok(None)
+    }
+}
+
+/// The credentials of a task, where there is room for them.
+fn hand_out(state: &State, task: u16, room: Option<CredRoom>) -> Option<Cred>
+    requires { task < length state.now.tasks }
+    ensures { MatchOption result (is_some room ≡ false) (λ cred. cred ≡ creds_of (world_seen state.now) task) }
+{
+    match (room, state.tasks.cred(task)) {
+        (Some(room), Some(cred)) => Some(cred.copy_into(room)),
+        _ => None,
+    }
+}
+
+/// What comes of a call that goes through. All memory is found before the effect, which comes last.
 fn go_through(
     alloc: Global,
     state: &mut State,
@@ -111,33 +174,37 @@ fn go_through(
     task: u16,
     call: &Call,
     checks: Checks,
-) -> Result<(Told, Told), AllocError>
+) -> Result<Acted, AllocError>
     requires made { task < length state.old.tasks }
     requires passes { Passes (call_asks (world_seen state.old) (ruling_of rules.now) task (creds_of (world_seen state.old) task) call.now) }
     ensures world { OnOk result (world_seen state.new ≡ (effect_of (world_seen state.old) (ruling_of rules.now) task call.now).world) }
-    ensures told { IfOk result (λ both. both.0 ≡ record { checks = checks; reply = (effect_of (world_seen state.old) (ruling_of rules.now) task call.now).reply }) }
-    ensures copy { IfOk result (λ both. both.1 ≡ both.0) }
+    ensures told { IfOk result (λ acted. acted.told ≡ record { checks = checks; reply = (effect_of (world_seen state.old) (ruling_of rules.now) task call.now).reply }) }
+    ensures kept { IfOk result (λ acted. acted.kept ≡ acted.told) }
+    ensures creds { IfOk result (λ acted. HandsOut (world_seen state.old) (world_seen state.new) task acted.creds) }
     ensures err { OnErr result (world_seen state.new ≡ world_seen state.old) }
 {
+    let room = find_room(alloc, call)?;
     let reply = reply_of(alloc, state, task, call)?;
     let told = Told { checks, reply };
-    let copy = told.copy()?;
+    let kept = told.copy()?;
     effect(alloc, state, rules, task, call)?;
-    Ok((told, copy))
+    let creds = hand_out(state, task, room);
+    Ok(Acted { told, kept, creds })
 }
 
-/// Takes a call of a task: what is told of it, and a copy of that. On want of memory nothing changes.
+/// Takes a call of a task. On want of memory nothing changes.
 pub(crate) fn act(
     alloc: Global,
     state: &mut State,
     rules: &RuleIndex,
     task: u16,
     call: &Call,
-) -> Result<(Told, Told), AllocError>
+) -> Result<Acted, AllocError>
     ensures world { OnOk result (world_seen state.new ≡ (step (world_seen state.old) (ruling_of rules.now) task call.now).world) }
-    ensures checks { IfOk result (λ both. both.0.checks ≡ (step (world_seen state.old) (ruling_of rules.now) task call.now).checks) }
-    ensures reply { IfOk result (λ both. both.0.reply ≡ (step (world_seen state.old) (ruling_of rules.now) task call.now).reply) }
-    ensures copy { IfOk result (λ both. both.1 ≡ both.0) }
+    ensures checks { IfOk result (λ acted. acted.told.checks ≡ (step (world_seen state.old) (ruling_of rules.now) task call.now).checks) }
+    ensures reply { IfOk result (λ acted. acted.told.reply ≡ (step (world_seen state.old) (ruling_of rules.now) task call.now).reply) }
+    ensures kept { IfOk result (λ acted. acted.kept ≡ acted.told) }
+    ensures creds { IfOk result (λ acted. HandsOut (world_seen state.old) (world_seen state.new) task acted.creds) }
     ensures err { OnErr result (world_seen state.new ≡ world_seen state.old) }
 {
     let Judgement { checks, stop } = judge(alloc, state, rules, task, call)?;
@@ -145,8 +212,12 @@ pub(crate) fn act(
         None => go_through(alloc, state, rules, task, call, checks),
         Some(reply) => {
             let told = Told { checks, reply };
-            let copy = told.copy()?;
-            Ok((told, copy))
+            let kept = told.copy()?;
+            Ok(Acted {
+                told,
+                kept,
+                creds: None,
+            })
         }
     }
 }

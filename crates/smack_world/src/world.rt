@@ -5,7 +5,7 @@ ghost use Rattle.world_spec.specs.Worlds.{world_first, creds_in, live_task as li
 ghost use Rattle.world_spec.specs.Replays.{StandsOver};
 ghost use Rattle.smack_world.specs.Stepping.{IsStepped, most_entries};
 
-use crate::acting::act;
+use crate::acting::{Acted, act};
 use rule_fold::RuleIndex;
 use rules_spec::Checks;
 use smack_base::Pid;
@@ -41,12 +41,14 @@ impl Model for World {
 /// What a step came to.
 #[derive(Drop)]
 pub enum Stepped {
-    /// The call was taken: the place of its entry in the trail, counted from 1, and the checks and
-    /// the reply of the entry once more.
+    /// The call was taken: the place of its entry in the trail, counted from 1, the checks and the
+    /// reply of the entry once more, and the credentials that the caller has after the call; `None`
+    /// where it has those that it had before.
     Entered {
         place: u32,
         checks: Checks,
         reply: Reply,
+        creds: Option<Cred>,
     },
     /// The trail has 131,072 entries, its most: nothing was done, and the call comes back.
     TrailFull(Call),
@@ -95,7 +97,7 @@ impl World {
         match act(alloc, &mut self.state, rules, task, &call) {
             Err(error) => Err((error, call)),
             // A copy has no room to spare, so the trail keeps the copies.
-            Ok((told, kept)) => {
+            Ok(Acted { told, kept, creds }) => {
                 self.trail
                     .push(Entry {
                         task,
@@ -110,6 +112,7 @@ impl World {
                     place: self.entries(),
                     checks: told.checks,
                     reply: told.reply,
+                    creds,
                 })
             }
         }

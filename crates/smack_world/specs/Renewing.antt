@@ -1,0 +1,23 @@
+use Rattle.std.specs.Prelude.{Bool, true, false}
+use Rattle.world_spec.specs.declared.Call.{Call}
+use Rattle.world_spec.specs.declared.Call.TheVariants as Call
+use Rattle.world_spec.specs.declared.TaskCall.{TaskCall}
+use Rattle.world_spec.specs.declared.TaskCall.TheVariants as TaskCall
+
+-- whether a call on tasks may leave its caller with other credentials
+abbrev pub task_renews : TaskCall → Bool
+task_renews (TaskCall.Fork pid) = false
+task_renews TaskCall.Exit = false
+task_renews (TaskCall.Relabel l) = true
+task_renews (TaskCall.DropCap cap) = true
+task_renews (TaskCall.SelfRules rules) = true
+task_renews (TaskCall.Relabels labels) = true
+task_renews (TaskCall.Kill pid sig) = false
+task_renews TaskCall.Take = false
+task_renews (TaskCall.TraceRead pid) = false
+task_renews (TaskCall.TraceAttach pid) = false
+
+-- whether a call may leave its caller with other credentials
+abbrev pub renews : Call → Bool
+renews (Call.Task call) = task_renews call
+renews (Call.Tree call) = false
