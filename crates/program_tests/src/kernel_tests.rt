@@ -199,6 +199,7 @@ fn steps_to(alloc: Global, world: &mut World, rules: &RuleIndex, entry: &Entry) 
                 place: _,
                 checks,
                 reply,
+                creds: _,
             },
         ) => checks.items() == entry.checks.items() && is_same(&reply, &entry.reply),
         _ => false,

@@ -243,7 +243,8 @@ fn gives_up(alloc: Global, world: &mut World, rules: &RuleIndex) -> bool {
         Ok(Stepped::Entered {
             place: 1,
             checks: _,
-            reply: Reply::Ok
+            reply: Reply::Ok,
+            creds: _
         })
     )
 }
@@ -258,7 +259,8 @@ fn refuses_all(alloc: Global, world: &mut World, rules: &RuleIndex) -> bool {
             Ok(Stepped::Entered {
                 place: _,
                 checks: _,
-                reply: Reply::Refused(Why::NotPrivileged)
+                reply: Reply::Refused(Why::NotPrivileged),
+                creds: _
             })
         );
         all = all && refused;

@@ -40,7 +40,7 @@ use Rattle.smack_kernel.specs.Answers.{IsForked}
 use Rattle.smack_kernel.specs.declared.kernel.Called.TheVariants as Called
 use Rattle.smack_kernel.proofs.Indexes.{stands_longer, stands_within}
 use Rattle.smack_kernel.proofs.Worlds.{IsLive, Stops, MakesNext, are_seen, stop_child, went_stops, step_makes, replay_made}
-use Rattle.smack_kernel.proofs.OwnCreds.{child_has, fork_prepared}
+use Rattle.smack_kernel.proofs.OwnCreds.{child_has, fork_keeps}
 use Rattle.smack_kernel.proofs.Turning.{trail_made, turn_live, turn_numbers, turn_enters, turn_calls, task_given, alive_made}
 
 -- a child was drawn, and the seat heard of it
@@ -203,11 +203,11 @@ module _ {s : SeatValue Entry} {w : View Entry} {rules : IndexValue} {rows : ℕ
   entry = told_entry s.number (calls + 1) (Call.Task (TaskCall.Fork pid)) r.version r.checks r.reply
 
   replies : child_of (step x.world (ruling w.journal) s.number (Call.Task (TaskCall.Fork pid))).reply ≡ Some k
-  replies = ap child_of (sym is_made.0.4) ∙ is_child
+  replies = ap child_of (sym is_made.0.reply_is) ∙ is_child
 
   next : MakesNext (length x.world.tasks) true (Some k) (length m'.world.tasks)
   next = subst (λ (z : Option ℕ × ℕ). MakesNext (length x.world.tasks) true z.0 z.1)
-      (λ i. (replies i, ap (λ (z : WorldValue). length z.world.tasks) (sym is_made.0.1) i))
+      (λ i. (replies i, ap (λ (z : WorldValue). length z.world.tasks) (sym is_made.0.is) i))
       (step_makes x.world (ruling w.journal) s.number (Call.Task (TaskCall.Fork pid)))
 
   count : length x.world.tasks ≡ made world_means w.history + 1
@@ -268,14 +268,14 @@ module _ {s : SeatValue Entry} {w : View Entry} {rules : IndexValue} {rows : ℕ
         (f.ended_loads ∙ ap (λ (z : View Entry). z.ended_loads) t.view) later (Call.Task (TaskCall.Fork pid)) r
         (is_made.1 ∙ sym whole)
         (turn_enters task w x t s3.view entry r.place refl f.history f.journal
-        (λ q h. f.batches q (subst (Has q) (sym seen_numbers) h)) is_made.0.0 is_made.0.2 is_made.1 is_made.0.3 is_made.0.4)
+        (λ q h. f.batches q (subst (Has q) (sym seen_numbers) h)) is_made.0.room is_made.0.at is_made.1 is_made.0.checks_are is_made.0.reply_is)
 
     -- the parent's credentials are as before
     creds_kept : creds' ≡ creds
     creds_kept =
         let l = turn_live task w x t in
-        is_creds ∙ (ap (λ (z : WorldValue). creds_of z.world s.number) is_made.0.1
-        ∙ fork_prepared creds (ruling w.journal) pid x.world s.number l.0 (sym l.1))
+        is_creds ∙ (ap (λ (z : WorldValue). creds_of z.world s.number) is_made.0.is
+        ∙ (fork_keeps x.world (ruling w.journal) s.number pid l.0 ∙ sym l.1))
 
     child_over : StandsOver c.view.journal m'.trail m'.world
     child_over = over_longer m' f.child_journal over
@@ -291,7 +291,7 @@ module _ {s : SeatValue Entry} {w : View Entry} {rules : IndexValue} {rows : ℕ
       (let n = child_number in let m = next.1 in omega arith),
       inherited ∙ ((turn_live task w x t).1
           ∙ (sym (fork_child x.world (ruling w.journal) s.number pid k replies)
-          ∙ (λ i. creds_of (sym (ap (λ (z : WorldValue). z.world) is_made.0.1) i) (sym child_number i)))),
+          ∙ (λ i. creds_of (sym (ap (λ (z : WorldValue). z.world) is_made.0.is) i) (sym child_number i)))),
     )
 
     pub child_task : IsTaskState c rules' rows' creds_c

@@ -51,18 +51,18 @@ module _ (journal : List Batch) (m m' : WorldValue) (task seq : ℕ) (call : Cal
       → told_entry task seq call r.version r.checks r.reply ≡ stepping.entry_of m (ruling journal) task seq call
   made_entry r h =
       let stepped = h.0 in
-      λ i. record { task = task; seq = seq; call = call; version = h.1 i; checks = stepped.3 i; reply = stepped.4 i }
+      λ i. record { task = task; seq = seq; call = call; version = h.1 i; checks = stepped.checks_are i; reply = stepped.reply_is i }
 
   pub trail_made : {E : Type 0} (r : Outcome E) → IfOk r (IsMade m m' (ruling journal) task seq call) → OnErr r (m' ≡ m)
       → m'.trail ≡ m.trail ++ entries_made task seq call r
   trail_made (Ok (Turned.Entry r)) h none =
-      ap (λ (z : WorldValue). z.trail) h.0.1 ∙ ap (λ e. m.trail ++ e ∷ []) (sym (made_entry r h))
+      ap (λ (z : WorldValue). z.trail) h.0.is ∙ ap (λ e. m.trail ++ e ∷ []) (sym (made_entry r h))
   trail_made (Ok (Turned.TrailFull back)) h none = ap (λ (z : WorldValue). z.trail) h.1 ∙ sym (append-nil m.trail)
   trail_made (Err e) h none = ap (λ (z : WorldValue). z.trail) none ∙ sym (append-nil m.trail)
 
   pub alive_made : {E : Type 0} (r : Outcome E) → IfOk r (IsMade m m' (ruling journal) task seq call) → OnErr r (m' ≡ m) → (k : ℕ)
       → k < length m.world.tasks → k < length m'.world.tasks
-  alive_made (Ok (Turned.Entry r)) h none k low = subst (λ (z : WorldValue). k < length z.world.tasks) (sym h.0.1)
+  alive_made (Ok (Turned.Entry r)) h none k low = subst (λ (z : WorldValue). k < length z.world.tasks) (sym h.0.is)
       (step_alive m.world (ruling journal) task call k low)
   alive_made (Ok (Turned.TrailFull back)) h none k low =
       subst (λ (z : WorldValue). k < length z.world.tasks) (sym h.1) low
@@ -71,7 +71,7 @@ module _ (journal : List Batch) (m m' : WorldValue) (task seq : ℕ) (call : Cal
   -- a call that is no fork makes no task
   none_made : (r : Entered) → IsMade m m' (ruling journal) task seq call (Turned.Entry r) → is_fork_call call ≡ false
       → child_of r.reply ≡ None
-  none_made r h plain = ap child_of h.0.4 ∙ next_plain _ _ _ _ (step_makes m.world (ruling journal) task call) plain
+  none_made r h plain = ap child_of h.0.reply_is ∙ next_plain _ _ _ _ (step_makes m.world (ruling journal) task call) plain
 
   pub plain_made : {E : Type 0} (r : Outcome E) → IfOk r (IsMade m m' (ruling journal) task seq call)
       → is_fork_call call ≡ false → IfOk r (λ q. task_made q ≡ None)
@@ -310,7 +310,7 @@ module _ {E : Type 0} {s s1 s3 : SeatValue Entry} {rules rules' : IndexValue} {r
           let ends : s3.view.history ≡ s1.view.history ++ entry ∷ [] =
           history ∙ ap (λ z. s1.view.history ++ entries_made s.number (made + 1) call z) is_q in
           turn_calls task task_turned made table number numbers ended_loads later call e (m.1 ∙ sym all)
-          (turn_enters task s1.view x t s3.view entry e.place refl ends more no_batch m.0.0 m.0.2 m.1 m.0.3 m.0.4)
+          (turn_enters task s1.view x t s3.view entry e.place refl ends more no_batch m.0.room m.0.at m.1 m.0.checks_are m.0.reply_is)
       by (Ok (Turned.TrailFull back)) is_q =
           let m = subst (λ z. IfOk z (IsMade x m' (ruling s1.view.journal) s.number (made + 1) call)) is_q is_made in
           let empty = ap (entries_made s.number (made + 1) call) is_q in

@@ -2,7 +2,6 @@ pub mod Histories
 pub mod Replays
 pub mod Indexes
 pub mod Growth
-pub mod Creds
 pub mod Tasks
 pub mod Turns
 pub mod Forks

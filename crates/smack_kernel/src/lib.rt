@@ -21,7 +21,6 @@
 #![tactic(auto)]
 
 mod closed;
-mod creds;
 mod forks;
 mod index;
 mod kernel;

@@ -1,5 +1,6 @@
 //! What a task does in a turn.
 ghost use Rattle.std.specs.Prelude.{◌≡◌, ◌≤◌, ◌<◌, ◌+◌, List, length, false, IfOk, IfErr, OnOk, OnErr};
+ghost use Rattle.std.specs.Option.{unwrap_or};
 ghost use Rattle.rules_spec.specs.declared.Batch.{Batch};
 ghost use Rattle.rules_spec.specs.Rulings.{ruling};
 ghost use Rattle.rule_fold.specs.Index.{ruling_of, StandsFor};
@@ -12,7 +13,6 @@ ghost use Rattle.smack_kernel.specs.Tasks.{IsTaskState, Stays, task_of};
 ghost use Rattle.smack_kernel.specs.Turns.{IsMade, IsTurned};
 ghost use Rattle.smack_kernel.specs.Answers.{is_fork_call};
 
-use crate::creds::{prepare, take_over};
 use crate::index::{Index, read_up};
 use crate::world_machine::WorldMachine;
 use live_table::{LiveTable, TaskSeat};
@@ -46,8 +46,18 @@ pub(crate) enum Turned {
     TrailFull(Call),
 }
 
+/// Credentials that a step hands out take the place of those that the task had.
+fn take_over(creds: &mut Cred, next: Option<Cred>)
+    ensures { creds.new ≡ unwrap_or next creds.old }
+{
+    if let Some(next) = next {
+        *creds = next;
+    }
+}
+
 /// Makes a call of a task on the world, in the version of `rules`. The credentials are those of the
 /// task in the world, before and after it. On want of memory nothing changes.
+#[tactic(auto, using(crate::proofs::OwnCreds::taken_over))]
 pub(crate) fn make_call(
     alloc: Global,
     rules: &RuleIndex,
@@ -66,10 +76,6 @@ pub(crate) fn make_call(
     ensures back { IfErr result (λ e. e.1 ≡ call) }
     ensures err { OnErr result (machine.new ≡ machine.old) }
 {
-    let next = match prepare(creds, rules, &call) {
-        Ok(next) => next,
-        Err(fault) => return Err((fault, call)),
-    };
     match machine.step(alloc, rules, task, seq, call) {
         Err(error) => Err(error),
         Ok(Stepped::TrailFull(call)) => Ok(Turned::TrailFull(call)),
@@ -78,9 +84,10 @@ pub(crate) fn make_call(
                 place,
                 checks,
                 reply,
+                creds: next,
             },
         ) => {
-            take_over(creds, next, &reply);
+            take_over(creds, next);
             Ok(Turned::Entry(Entered {
                 place,
                 version: rules.version(),

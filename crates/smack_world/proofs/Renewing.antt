@@ -49,7 +49,7 @@ change_keeps rows task (NewSignal n sig) keeps low = same_creds rows n task _ (�
 change_keeps rows task SignalTaken keeps low = same_creds rows task task _ (λ r. refl)
 
 -- a call that renews nothing leaves its caller the credentials
-effect_keeps : (w : World) (version : Ruling) (task : ℕ) (call : Call) → renews call ≡ false → task < length w.tasks
+pub effect_keeps : (w : World) (version : Ruling) (task : ℕ) (call : Call) → renews call ≡ false → task < length w.tasks
     → creds_of (effect w version task call).world task ≡ creds_of w task
 effect_keeps w version task (Call.Task call) kept low = ap creds_or_first
     (change_keeps w.tasks task (task_left w version task call).change (call_keeps w version task call kept) low)
