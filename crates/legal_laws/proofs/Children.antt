@@ -7,14 +7,13 @@ use Rattle.world_spec.specs.declared.Why.TheVariants as Why
 use Rattle.world_spec.specs.declared.Question.{Question}
 use Rattle.world_spec.specs.declared.Part.{Part}
 use Rattle.world_spec.specs.declared.Part.TheVariants as Part
-use Rattle.world_spec.specs.declared.TaskCall.TheVariants as TaskCall
+use Rattle.world_spec.specs.declared.tasks.TaskCall.TheVariants as TaskCall
 use Rattle.world_spec.specs.declared.Call.{Call}
 use Rattle.world_spec.specs.declared.Call.TheVariants as Call
 use Rattle.world_spec.specs.declared.Reply.{Reply}
 use Rattle.world_spec.specs.declared.Reply.TheVariants as Reply
 use Rattle.world_spec.specs.Worlds.{World, was_made, is_live, most_tasks}
-use Rattle.world_spec.specs.Questions.{asks}
-use Rattle.world_spec.specs.Steps.{Went, went, verdict_of, Effect, effect, stepped, step}
+use Rattle.world_spec.specs.Steps.{asks, Went, went, verdict_of, Effect, effect, stepped, step}
 use Rattle.world_spec.specs.Replies.{makes}
 use Rattle.world_laws.proofs.Changes.{effect_unmade}
 

@@ -4,7 +4,7 @@ use Rattle.rules_spec.specs.AskedModes.{read}
 use Rattle.script_spec.specs.declared.ScriptFault.{ScriptFault}
 use Rattle.script_spec.specs.Lines.{ScriptLine}
 use Rattle.script_spec.specs.Grammar.{parse}
-use Rattle.world_spec.specs.declared.TaskCall.TheVariants as TaskCall
+use Rattle.world_spec.specs.declared.tasks.TaskCall.TheVariants as TaskCall
 use Rattle.world_spec.specs.declared.Reply.TheVariants as Reply
 use Rattle.record_spec.specs.declared.AskedWhat.TheVariants as AskedWhat
 use Rattle.record_spec.specs.declared.RunRecord.{RunRecord}

@@ -6,7 +6,7 @@ use Rattle.rules_spec.specs.Versions.{floor}
 use Rattle.rules_spec.specs.declared.Batch.{Batch}
 use Rattle.file_spec.specs.declared.Refusal.TheVariants as Refusal
 use Rattle.script_spec.specs.Lines.{ScriptLine}
-use Rattle.world_spec.specs.declared.TaskCall.TheVariants as TaskCall
+use Rattle.world_spec.specs.declared.tasks.TaskCall.TheVariants as TaskCall
 use Rattle.world_spec.specs.declared.Reply.TheVariants as Reply
 use Rattle.world_spec.specs.declared.Why.TheVariants as Why
 use Rattle.world_spec.specs.declared.Entry.{Entry}

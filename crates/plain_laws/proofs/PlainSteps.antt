@@ -11,17 +11,19 @@ use Rattle.world_spec.specs.declared.Question.TheVariants as Question
 use Rattle.world_spec.specs.declared.Part.{Part}
 use Rattle.world_spec.specs.declared.Part.TheVariants as Part
 use Rattle.world_spec.specs.declared.Why.TheVariants as Why
-use Rattle.world_spec.specs.declared.TaskCall.{TaskCall}
-use Rattle.world_spec.specs.declared.TaskCall.TheVariants as TaskCall
-use Rattle.world_spec.specs.declared.TreeCall.TheVariants as TreeCall
+use Rattle.world_spec.specs.declared.tasks.TaskCall.{TaskCall}
+use Rattle.world_spec.specs.declared.tasks.TaskCall.TheVariants as TaskCall
+use Rattle.world_spec.specs.declared.trees.TreeCall.TheVariants as TreeCall
 use Rattle.world_spec.specs.declared.Call.{Call}
 use Rattle.world_spec.specs.declared.Call.TheVariants as Call
 use Rattle.world_spec.specs.declared.Answer.{Answer}
 use Rattle.world_spec.specs.Replies.{answered}
 use Rattle.world_spec.specs.Signals.{least_signal}
 use Rattle.world_spec.specs.Worlds.{World, TaskRow, is_live, live_task, creds_of, pending_of}
-use Rattle.world_spec.specs.Questions.{call_asks, if_found, walk_to_last, first_name, label_at}
-use Rattle.world_spec.specs.Steps.{verdict_of, relabelled, TaskEffect, NewChild, signal_answer, task_left, task_reply, went, effect, stepped, step}
+use Rattle.world_spec.specs.Questions.{if_found}
+use Rattle.world_spec.specs.TreeCalls.{walk_to_last, first_name, label_at}
+use Rattle.world_spec.specs.Steps.{call_asks, verdict_of, task_reply, went, effect, stepped, step}
+use Rattle.world_spec.specs.TaskCalls.{relabelled, TaskEffect, NewChild, signal_answer, task_left}
 use Rattle.replay_spec.specs.Plain.{HasId, IsPlainVerdict, IsPlainReply, IsPlainCall}
 use Rattle.replay_spec.proofs.ReadCalls.{IsReadCall, plain_is_read}
 use Rattle.plain_laws.proofs.Lists.{all_append}

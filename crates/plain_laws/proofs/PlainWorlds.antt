@@ -9,7 +9,8 @@ use Rattle.std.proofs.lemmas.List.Elements.{All-from_recursion, recursion_from_A
 use Rattle.std.proofs.lemmas.Map.Views.{All-insert_key}
 use Rattle.world_spec.specs.declared.FileRow.{FileRow}
 use Rattle.world_spec.specs.Worlds.{World, TaskRow, world_first, creds_in, creds_or_first, creds_of, changed_at, is_named, label_of, with_file, without_file, file_names, in_byte_order}
-use Rattle.world_spec.specs.Steps.{most_names, TaskEffect, NoChange, NewCreds, LifeEnds, NewChild, NewSignal, SignalTaken, signalled, tasks_after}
+use Rattle.world_spec.specs.TaskCalls.{TaskEffect, NoChange, NewCreds, LifeEnds, NewChild, NewSignal, SignalTaken, signalled, tasks_after}
+use Rattle.world_spec.specs.TreeCalls.{most_names}
 use Rattle.log_spec.specs.Audits.{is_word}
 use Rattle.replay_spec.specs.Plain.{HasId}
 use Rattle.plain_laws.proofs.Lists.{all_append, all_take, all_drop, all_map}

@@ -12,8 +12,8 @@ use Rattle.world_spec.specs.declared.Call.{Call}
 use Rattle.world_spec.specs.declared.Reply.{Reply}
 use Rattle.world_spec.specs.declared.Reply.TheVariants as Reply
 use Rattle.world_spec.specs.Worlds.{World}
-use Rattle.world_spec.specs.Questions.{if_found, asks}
-use Rattle.world_spec.specs.Steps.{Went, asked, went, verdict_of, Effect, effect, Stepped, stepped, step}
+use Rattle.world_spec.specs.Questions.{if_found}
+use Rattle.world_spec.specs.Steps.{asks, Went, asked, went, verdict_of, Effect, effect, Stepped, stepped, step}
 use Rattle.replay_spec.specs.Plain.{HasId, IsPlainVerdict, IsPlainReply}
 use Rattle.plain_laws.proofs.PlainWorlds.{IsPlainWorld}
 

@@ -3,8 +3,8 @@ use Rattle.std.specs.List.{flat_map}
 use Rattle.smack_base.specs.declared.cap.Cap.{Cap}
 use Rattle.smack_base.specs.declared.rule_op.Pair.{Pair}
 use Rattle.rules_spec.specs.declared.Verdict.{Verdict}
-use Rattle.world_spec.specs.declared.TaskCall.{TaskCall}
-use Rattle.world_spec.specs.declared.TreeCall.{TreeCall}
+use Rattle.world_spec.specs.declared.tasks.TaskCall.{TaskCall}
+use Rattle.world_spec.specs.declared.trees.TreeCall.{TreeCall}
 use Rattle.world_spec.specs.declared.Call.{Call}
 use Rattle.world_spec.specs.declared.Why.{Why}
 use Rattle.world_spec.specs.declared.Reply.{Reply}

@@ -1,7 +1,7 @@
 use Rattle.std.specs.Prelude.{ℕ, ◌==◌, if◌then◌else◌, List, [], ◌∷◌, Option, Some, None, fold, nat_lt}
 use Rattle.std.specs.List.{list_any, insert, position_or_len}
 use Rattle.smack_base.specs.declared.ids.Pid.{Pid}
-use Rattle.world_spec.specs.declared.TaskCall.{TaskCall}
+use Rattle.world_spec.specs.declared.tasks.TaskCall.{TaskCall}
 use Rattle.world_spec.specs.declared.Call.{Call}
 use Rattle.world_spec.specs.declared.Entry.{Entry}
 use Rattle.world_spec.specs.Replies.{child_of}

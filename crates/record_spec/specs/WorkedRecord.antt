@@ -7,7 +7,7 @@ use Rattle.smack_base.specs.Modes.{no_modes}
 use Rattle.rules_spec.specs.declared.Batch.{Batch}
 use Rattle.rules_spec.specs.declared.Verdict.{Verdict}
 use Rattle.world_spec.specs.declared.Call.TheVariants as Call
-use Rattle.world_spec.specs.declared.TaskCall.TheVariants as TaskCall
+use Rattle.world_spec.specs.declared.tasks.TaskCall.TheVariants as TaskCall
 use Rattle.world_spec.specs.declared.Reply.TheVariants as Reply
 use Rattle.world_spec.specs.declared.Entry.{Entry}
 use Rattle.record_spec.specs.declared.AskedLine.{AskedLine}

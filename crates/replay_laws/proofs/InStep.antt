@@ -17,14 +17,14 @@ use Rattle.script_spec.specs.declared.CallVerb.{CallVerb}
 use Rattle.script_spec.specs.declared.CallVerb.TheVariants as CallVerb
 use Rattle.script_spec.specs.declared.Verb.{Verb}
 use Rattle.script_spec.specs.declared.Verb.TheVariants as Verb
-use Rattle.script_spec.specs.declared.TaskVerb.{TaskVerb}
-use Rattle.script_spec.specs.declared.TaskVerb.TheVariants as TaskVerb
-use Rattle.script_spec.specs.declared.TraceWay.{TraceWay}
-use Rattle.script_spec.specs.declared.TraceWay.TheVariants as TraceWay
+use Rattle.world_spec.specs.declared.tasks.TaskVerb.{TaskVerb}
+use Rattle.world_spec.specs.declared.tasks.TaskVerb.TheVariants as TaskVerb
+use Rattle.world_spec.specs.declared.tasks.TraceWay.{TraceWay}
+use Rattle.world_spec.specs.declared.tasks.TraceWay.TheVariants as TraceWay
 use Rattle.script_spec.specs.Lines.{ScriptLine, word_in, verb_in}
 use Rattle.script_spec.specs.Tasks.{forked_name, is_exit, change_by, change_of, has_exit, task_names}
-use Rattle.world_spec.specs.declared.TaskCall.{TaskCall}
-use Rattle.world_spec.specs.declared.TaskCall.TheVariants as TaskCall
+use Rattle.world_spec.specs.declared.tasks.TaskCall.{TaskCall}
+use Rattle.world_spec.specs.declared.tasks.TaskCall.TheVariants as TaskCall
 use Rattle.world_spec.specs.declared.Call.{Call}
 use Rattle.world_spec.specs.declared.Call.TheVariants as Call
 use Rattle.world_spec.specs.Worlds.{TaskRow, task_begun, was_made, is_live, creds_of, with_child, without_life, most_tasks}

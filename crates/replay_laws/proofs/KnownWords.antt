@@ -12,10 +12,10 @@ use Rattle.script_spec.specs.declared.CallVerb.{CallVerb}
 use Rattle.script_spec.specs.declared.CallVerb.TheVariants as CallVerb
 use Rattle.script_spec.specs.declared.Verb.{Verb}
 use Rattle.script_spec.specs.declared.Verb.TheVariants as Verb
-use Rattle.script_spec.specs.declared.TaskVerb.{TaskVerb}
-use Rattle.script_spec.specs.declared.TaskVerb.TheVariants as TaskVerb
-use Rattle.script_spec.specs.declared.TreeVerb.{TreeVerb}
-use Rattle.script_spec.specs.declared.TreeVerb.TheVariants as TreeVerb
+use Rattle.world_spec.specs.declared.tasks.TaskVerb.{TaskVerb}
+use Rattle.world_spec.specs.declared.tasks.TaskVerb.TheVariants as TaskVerb
+use Rattle.world_spec.specs.declared.trees.TreeVerb.{TreeVerb}
+use Rattle.world_spec.specs.declared.trees.TreeVerb.TheVariants as TreeVerb
 use Rattle.script_spec.specs.declared.WordKind.{WordKind}
 use Rattle.script_spec.specs.declared.WordKind.TheVariants as WordKind
 use Rattle.script_spec.specs.Words.{task_kinds, tree_kinds, call_kinds, kinds_of, cap_of, number_of, signal_of, trace_way_of, word_at}

@@ -4,13 +4,13 @@ use Rattle.std.proofs.lemmas.Bool.{ne_eqb, eq-eqb, lt-ltb}
 use Rattle.smack_base.specs.declared.ids.Pid.{Pid}
 use Rattle.rules_spec.specs.declared.Verdict.{Verdict}
 use Rattle.rules_spec.specs.Rulings.{Ruling}
-use Rattle.world_spec.specs.declared.TaskCall.TheVariants as TaskCall
+use Rattle.world_spec.specs.declared.tasks.TaskCall.TheVariants as TaskCall
 use Rattle.world_spec.specs.declared.Call.{Call}
 use Rattle.world_spec.specs.declared.Call.TheVariants as Call
 use Rattle.world_spec.specs.declared.Reply.{Reply}
 use Rattle.world_spec.specs.Worlds.{World, TaskRow, was_made, live_task, is_live, creds_of, changed_at, with_child, without_life, most_tasks}
-use Rattle.world_spec.specs.Questions.{asks}
-use Rattle.world_spec.specs.Steps.{went, verdict_of, TaskEffect, NoChange, NewCreds, LifeEnds, NewChild, NewSignal, SignalTaken, tasks_after, task_left, Effect, effect, stepped, step}
+use Rattle.world_spec.specs.Steps.{asks, went, verdict_of, Effect, effect, stepped, step}
+use Rattle.world_spec.specs.TaskCalls.{TaskEffect, NoChange, NewCreds, LifeEnds, NewChild, NewSignal, SignalTaken, tasks_after, task_left}
 use Rattle.world_laws.proofs.Changes.{BeginsNone, EndsNone, begins_none, ends_none, length_changed}
 
 -- Tasks from a number on: each has its number as its pid, and is live unless it has exited.

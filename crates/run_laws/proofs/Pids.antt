@@ -8,14 +8,15 @@ use Rattle.rules_spec.specs.declared.Verdict.{Verdict}
 use Rattle.rules_spec.specs.Rulings.{Ruling}
 use Rattle.world_spec.specs.declared.Why.TheVariants as Why
 use Rattle.world_spec.specs.declared.Part.TheVariants as Part
-use Rattle.world_spec.specs.declared.TaskCall.TheVariants as TaskCall
+use Rattle.world_spec.specs.declared.tasks.TaskCall.TheVariants as TaskCall
 use Rattle.world_spec.specs.declared.Call.{Call}
 use Rattle.world_spec.specs.declared.Call.TheVariants as Call
 use Rattle.world_spec.specs.declared.Reply.{Reply}
 use Rattle.world_spec.specs.declared.Reply.TheVariants as Reply
 use Rattle.world_spec.specs.declared.Entry.{Entry}
 use Rattle.world_spec.specs.Worlds.{World, TaskRow, is_of_pid, was_made, is_live, changed_at, creds_in, creds_or_first, creds_of, task_begun, most_tasks}
-use Rattle.world_spec.specs.Steps.{Effect, TaskEffect, NoChange, NewCreds, LifeEnds, NewChild, NewSignal, SignalTaken, tasks_after, task_left, effect, stepped, went, verdict_of, step}
+use Rattle.world_spec.specs.TaskCalls.{TaskEffect, NoChange, NewCreds, LifeEnds, NewChild, NewSignal, SignalTaken, tasks_after, task_left}
+use Rattle.world_spec.specs.Steps.{Effect, effect, stepped, went, verdict_of, step}
 use Rattle.world_spec.specs.Replays.{AreSteps, version_of, after_entry}
 use Rattle.legal_spec.specs.Calls.{Stands, IsForkOf}
 use Rattle.run_laws.proofs.Lists.{same_some}

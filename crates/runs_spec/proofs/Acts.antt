@@ -1,16 +1,16 @@
 -- A line that makes a call forks nothing by it: a fork is an act of its own.
 use Rattle.std.proofs.Common.{◌≡◌, ⊎_elim, ℕ, Bool, false, List, Option, Some, None, refl, ap, ◌∙◌}
 use Rattle.smack_base.specs.declared.ids.Pid.{Pid}
-use Rattle.world_spec.specs.declared.TaskCall.{TaskCall}
-use Rattle.world_spec.specs.declared.TaskCall.TheVariants as TaskCall
+use Rattle.world_spec.specs.declared.tasks.TaskCall.{TaskCall}
+use Rattle.world_spec.specs.declared.tasks.TaskCall.TheVariants as TaskCall
 use Rattle.world_spec.specs.declared.Call.{Call}
 use Rattle.world_spec.specs.declared.Call.TheVariants as Call
-use Rattle.script_spec.specs.declared.TaskVerb.{TaskVerb}
-use Rattle.script_spec.specs.declared.TaskVerb.TheVariants as TaskVerb
+use Rattle.world_spec.specs.declared.tasks.TaskVerb.{TaskVerb}
+use Rattle.world_spec.specs.declared.tasks.TaskVerb.TheVariants as TaskVerb
 use Rattle.script_spec.specs.declared.CallVerb.{CallVerb}
 use Rattle.script_spec.specs.declared.CallVerb.TheVariants as CallVerb
-use Rattle.script_spec.specs.declared.TraceWay.{TraceWay}
-use Rattle.script_spec.specs.declared.TraceWay.TheVariants as TraceWay
+use Rattle.world_spec.specs.declared.tasks.TraceWay.{TraceWay}
+use Rattle.world_spec.specs.declared.tasks.TraceWay.TheVariants as TraceWay
 use Rattle.script_spec.specs.Lines.{ScriptLine}
 use Rattle.replay_spec.specs.declared.Act.TheVariants as Act
 use Rattle.replay_spec.specs.Calls.{traced, task_call, tree_call, made_call}

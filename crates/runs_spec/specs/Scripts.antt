@@ -1,6 +1,6 @@
 use Rattle.std.specs.Prelude.{◌≡◌, ℕ, ◌+◌, List, [], take, drop}
 use Rattle.world_spec.specs.declared.Call.TheVariants as Call
-use Rattle.world_spec.specs.declared.TaskCall.TheVariants as TaskCall
+use Rattle.world_spec.specs.declared.tasks.TaskCall.TheVariants as TaskCall
 use Rattle.script_spec.specs.Lines.{ScriptLine, table_of}
 use Rattle.script_spec.specs.Tasks.{task_names}
 use Rattle.record_spec.specs.declared.AskedWhat.TheVariants as AskedWhat

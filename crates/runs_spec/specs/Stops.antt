@@ -1,7 +1,7 @@
 use Rattle.std.specs.Prelude.{◌⊎◌, ◌≡◌, ℕ, ◌+◌, ◌<◌, ◌≤◌, List, ◌∷◌, length, None}
 use Rattle.smack_base.specs.declared.ids.Pid.{Pid}
 use Rattle.world_spec.specs.declared.Call.TheVariants as Call
-use Rattle.world_spec.specs.declared.TaskCall.TheVariants as TaskCall
+use Rattle.world_spec.specs.declared.tasks.TaskCall.TheVariants as TaskCall
 use Rattle.world_spec.specs.declared.Entry.{Entry}
 use Rattle.script_spec.specs.Lines.{ScriptLine}
 use Rattle.legal_spec.specs.Calls.{IsForkOf}

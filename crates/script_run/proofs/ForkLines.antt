@@ -2,7 +2,7 @@
 use Rattle.std.proofs.Common.{◌≡◌, ℕ, zero, suc, ◌+◌, ◌<◌, ⊎_elim, List, [], ◌∷◌, ◌++◌, length, refl, sym, ap, subst, ◌∙◌, arith, append_assoc, Some}
 use Rattle.std.specs.Prelude.{take, Option}
 use Rattle.smack_base.specs.declared.ids.Pid.{Pid}
-use Rattle.world_spec.specs.declared.TaskCall.TheVariants as TaskCall
+use Rattle.world_spec.specs.declared.tasks.TaskCall.TheVariants as TaskCall
 use Rattle.world_spec.specs.declared.Call.TheVariants as Call
 use Rattle.script_spec.specs.Lines.{ScriptLine, table_of}
 use Rattle.script_spec.specs.Tasks.{task_names}

@@ -1,8 +1,8 @@
 use Rattle.std.specs.Prelude.{ℕ, Bool, true, false, not, ◌==◌, if◌then◌else◌, List, [], ◌∷◌, Option, Some, None, length}
 use Rattle.std.specs.Option.{option_map}
 use Rattle.text_spec.specs.Texts.{Placed}
-use Rattle.script_spec.specs.declared.TaskVerb.{TaskVerb}
-use Rattle.script_spec.specs.declared.TaskVerb.TheVariants as TaskVerb
+use Rattle.world_spec.specs.declared.tasks.TaskVerb.{TaskVerb}
+use Rattle.world_spec.specs.declared.tasks.TaskVerb.TheVariants as TaskVerb
 use Rattle.script_spec.specs.declared.CallVerb.TheVariants as CallVerb
 use Rattle.script_spec.specs.declared.Verb.{Verb}
 use Rattle.script_spec.specs.declared.Verb.TheVariants as Verb

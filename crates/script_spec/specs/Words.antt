@@ -9,16 +9,16 @@ use Rattle.smack_base.specs.Labels.{is_label}
 use Rattle.smack_base.specs.Modes.{is_modes}
 use Rattle.smack_base.specs.Paths.{path_of, is_slash, is_name_byte}
 use Rattle.text_spec.specs.Texts.{Placed}
-use Rattle.script_spec.specs.declared.TaskVerb.{TaskVerb}
-use Rattle.script_spec.specs.declared.TaskVerb.TheVariants as TaskVerb
-use Rattle.script_spec.specs.declared.TreeVerb.{TreeVerb}
-use Rattle.script_spec.specs.declared.TreeVerb.TheVariants as TreeVerb
+use Rattle.world_spec.specs.declared.tasks.TaskVerb.{TaskVerb}
+use Rattle.world_spec.specs.declared.tasks.TaskVerb.TheVariants as TaskVerb
+use Rattle.world_spec.specs.declared.trees.TreeVerb.{TreeVerb}
+use Rattle.world_spec.specs.declared.trees.TreeVerb.TheVariants as TreeVerb
 use Rattle.script_spec.specs.declared.CallVerb.{CallVerb}
 use Rattle.script_spec.specs.declared.CallVerb.TheVariants as CallVerb
 use Rattle.script_spec.specs.declared.Verb.{Verb}
 use Rattle.script_spec.specs.declared.Verb.TheVariants as Verb
-use Rattle.script_spec.specs.declared.TraceWay.{TraceWay}
-use Rattle.script_spec.specs.declared.TraceWay.TheVariants as TraceWay
+use Rattle.world_spec.specs.declared.tasks.TraceWay.{TraceWay}
+use Rattle.world_spec.specs.declared.tasks.TraceWay.TheVariants as TraceWay
 use Rattle.script_spec.specs.declared.WordKind.{WordKind}
 use Rattle.script_spec.specs.declared.WordKind.TheVariants as WordKind
 

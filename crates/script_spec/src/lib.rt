@@ -8,31 +8,7 @@
 //! is the first bad one, and why.
 #![tactic(auto)]
 
-/// The verbs of calls on tasks that leave the tasks of a script as they are.
-#[derive(Clone, Copy, PartialEq, Eq)]
-pub enum TaskVerb {
-    /// `relabel LABEL`: takes another label.
-    Relabel,
-    /// `drop CAP`: gives a capability up.
-    Drop,
-    /// `kill NAME SIG`: makes a signal of a task pending.
-    Kill,
-    /// `take`: takes the least pending signal of the caller.
-    Take,
-    /// `trace read NAME`, `trace attach NAME`: reads a task, or attaches to it, by ptrace.
-    Trace,
-}
-
-/// The verbs of calls on the file tree.
-#[derive(Clone, Copy, PartialEq, Eq)]
-pub enum TreeVerb {
-    /// `create PATH`: makes an empty file.
-    Create,
-    /// `unlink PATH`: takes a file away.
-    Unlink,
-    /// `list PATH N`: names up to 16 entries of a directory, from the N-th on.
-    List,
-}
+use world_spec::{TaskVerb, TreeVerb};
 
 /// The verbs of object calls, by families, as the calls come; `fork` and `exit` are not among them.
 #[derive(Clone, Copy, PartialEq, Eq)]
@@ -59,15 +35,6 @@ pub enum Verb {
     Exit,
     /// Another object call.
     Call(CallVerb),
-}
-
-/// How `trace` asks for a task.
-#[derive(Clone, Copy, PartialEq, Eq)]
-pub enum TraceWay {
-    /// `read`: looks at it.
-    Read,
-    /// `attach`: takes control of it.
-    Attach,
 }
 
 /// What a word behind a verb may be. A kind may look at the words before it.

@@ -9,7 +9,8 @@ use crate::tasks::TaskTable;
 use crate::verbs::{is_unbuilt_verb, kinds_of, verb_of};
 use crate::words::{bad_word, has_deep_path, is_task_name, is_unbuilt_file, word};
 use rule_text::Part;
-use script_spec::{CallVerb, Cause, TaskVerb, Verb};
+use script_spec::{CallVerb, Cause, Verb};
+use world_spec::TaskVerb;
 
 /// Whether a verb and the words behind it name a file that is not built.
 fn names_unbuilt_file(verb: Verb, words: &[Part<'_>]) -> bool

@@ -23,6 +23,7 @@ mod words;
 
 pub use line::Line;
 pub use script::{MOST_BYTES, Script};
-pub use script_spec::{CallVerb, Cause, ScriptFault, TaskVerb, TraceWay, TreeVerb, Verb, What};
+pub use script_spec::{CallVerb, Cause, ScriptFault, Verb, What};
 pub use verbs::verb_of;
 pub use words::{cap_of, number_of, signal_of, trace_way_of};
+pub use world_spec::{TaskVerb, TraceWay, TreeVerb};

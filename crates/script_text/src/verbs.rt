@@ -1,7 +1,8 @@
 ghost use Rattle.std.specs.Prelude.{◌≡◌, ◌≤◌, length};
 ghost use Rattle.script_spec.specs.Words.{plain_verb_of as plain_verb_of_name, task_verb_of as task_verb_of_name, tree_verb_of as tree_verb_of_name, call_verb_of as call_verb_of_name, verb_of as verb_of_name, kinds_of as kinds_of_verb, call_kinds as kinds_of_call_verb, task_kinds as kinds_of_task_verb, tree_kinds as kinds_of_tree_verb, is_one_of, unbuilt_task_verbs, unbuilt_tree_verbs, unbuilt_open_verbs, unbuilt_socket_verbs, unbuilt_message_verbs, unbuilt_semaphore_verbs, unbuilt_segment_verbs, unbuilt_host_verbs, unbuilt_mount_verbs, is_unbuilt_verb as is_unbuilt_name};
 
-use script_spec::{CallVerb, TaskVerb, TreeVerb, Verb, WordKind};
+use script_spec::{CallVerb, Verb, WordKind};
+use world_spec::{TaskVerb, TreeVerb};
 
 fn plain_verb_of(name: &[u8]) -> Option<Verb>
     ensures { result ≡ plain_verb_of_name name.now }

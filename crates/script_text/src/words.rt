@@ -9,9 +9,10 @@ ghost use Rattle.script_spec.specs.Grammar.{text_count as text_count_of_words};
 
 use crate::verbs::verb_of;
 use rule_text::{Part, Separator, split_word};
-use script_spec::{TraceWay, Verb, WordKind};
+use script_spec::{Verb, WordKind};
 use smack_base::{Cap, Label, Modes, is_path};
 use std::alloc::AllocError;
+use world_spec::TraceWay;
 
 /// The capability with this name; None where there is none.
 pub fn cap_of(name: &[u8]) -> Option<Cap>

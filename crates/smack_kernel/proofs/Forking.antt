@@ -9,13 +9,12 @@ use Rattle.rules_spec.specs.declared.Verdict.{Verdict}
 use Rattle.rule_fold.specs.Index.{IndexValue}
 use Rattle.world_spec.specs.declared.Call.{Call}
 use Rattle.world_spec.specs.declared.Call.TheVariants as Call
-use Rattle.world_spec.specs.declared.TaskCall.TheVariants as TaskCall
+use Rattle.world_spec.specs.declared.tasks.TaskCall.TheVariants as TaskCall
 use Rattle.world_spec.specs.declared.Entry.{Entry}
 use Rattle.world_spec.specs.declared.Reply.{Reply}
 use Rattle.world_spec.specs.declared.Reply.TheVariants as Reply
 use Rattle.world_spec.specs.Worlds.{World, world_first, creds_of, creds_or_first, task_begun}
-use Rattle.world_spec.specs.Questions.{asks}
-use Rattle.world_spec.specs.Steps.{Effect, went, verdict_of, effect, stepped, step}
+use Rattle.world_spec.specs.Steps.{asks, Effect, went, verdict_of, effect, stepped, step}
 use Rattle.world_spec.specs.Replays.{StandsOver, replay_of}
 use Rattle.world_laws.proofs.Standing.{longer_stands}
 use Rattle.smack_world.specs.Stepping.{WorldValue}

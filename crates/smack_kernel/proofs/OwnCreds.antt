@@ -6,11 +6,10 @@ use Rattle.rules_spec.specs.declared.Verdict.{Verdict}
 use Rattle.rules_spec.specs.Rulings.{Ruling}
 use Rattle.rules_spec.specs.Creds.{Creds}
 use Rattle.world_spec.specs.declared.Call.TheVariants as Call
-use Rattle.world_spec.specs.declared.TaskCall.TheVariants as TaskCall
+use Rattle.world_spec.specs.declared.tasks.TaskCall.TheVariants as TaskCall
 use Rattle.world_spec.specs.declared.Reply.{Reply}
 use Rattle.world_spec.specs.Worlds.{World, TaskRow, creds_in, creds_of}
-use Rattle.world_spec.specs.Questions.{asks}
-use Rattle.world_spec.specs.Steps.{Effect, went, verdict_of, effect, stepped, step}
+use Rattle.world_spec.specs.Steps.{asks, Effect, went, verdict_of, effect, stepped, step}
 use Rattle.smack_world.specs.Stepping.{HandsOut}
 use Rattle.smack_world.proofs.Renewing.{effect_keeps}
 

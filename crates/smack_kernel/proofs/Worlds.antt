@@ -9,7 +9,7 @@ use Rattle.rules_spec.specs.Rulings.{Ruling}
 use Rattle.rules_spec.specs.Creds.{Creds}
 use Rattle.world_spec.specs.declared.Call.{Call}
 use Rattle.world_spec.specs.declared.Call.TheVariants as Call
-use Rattle.world_spec.specs.declared.TaskCall.TheVariants as TaskCall
+use Rattle.world_spec.specs.declared.tasks.TaskCall.TheVariants as TaskCall
 use Rattle.world_spec.specs.declared.Entry.{Entry}
 use Rattle.world_spec.specs.declared.Part.{Part}
 use Rattle.world_spec.specs.declared.Part.TheVariants as Part
@@ -19,8 +19,9 @@ use Rattle.world_spec.specs.declared.Why.TheVariants as Why
 use Rattle.world_spec.specs.declared.Reply.{Reply}
 use Rattle.world_spec.specs.declared.Reply.TheVariants as Reply
 use Rattle.world_spec.specs.Worlds.{World, TaskRow, world_first, creds_of, is_live, was_made, task_begun, most_tasks}
-use Rattle.world_spec.specs.Questions.{asks}
-use Rattle.world_spec.specs.Steps.{Effect, Went, went, asked, verdict_of, task_left, tree_left, effect, stepped, step}
+use Rattle.world_spec.specs.Steps.{asks, Effect, Went, went, asked, verdict_of, effect, stepped, step}
+use Rattle.world_spec.specs.TaskCalls.{task_left}
+use Rattle.world_spec.specs.TreeCalls.{tree_left}
 use Rattle.world_spec.specs.Replies.{makes}
 use Rattle.world_spec.specs.Replays.{AreSteps, StandsOver, version_of, step_of, after_entry, replay_of}
 use Rattle.world_laws.proofs.Changes.{begins_none, length_after, answer_childless, change_childless}

@@ -5,8 +5,7 @@ use Rattle.world_spec.specs.declared.Call.{Call}
 use Rattle.world_spec.specs.declared.Reply.TheVariants as Reply
 use Rattle.world_spec.specs.declared.Why.TheVariants as Why
 use Rattle.world_spec.specs.Worlds.{World, is_live, creds_of}
-use Rattle.world_spec.specs.Questions.{call_asks, asks}
-use Rattle.world_spec.specs.Steps.{Went, went, verdict_of}
+use Rattle.world_spec.specs.Steps.{call_asks, asks, Went, went, verdict_of}
 
 abbrev live_asks : World → Ruling → ℕ → Call → Went
 live_asks w version task call = went (verdict_of w version) (asks w version task call)

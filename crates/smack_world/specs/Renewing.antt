@@ -1,8 +1,8 @@
 use Rattle.std.specs.Prelude.{Bool, true, false}
 use Rattle.world_spec.specs.declared.Call.{Call}
 use Rattle.world_spec.specs.declared.Call.TheVariants as Call
-use Rattle.world_spec.specs.declared.TaskCall.{TaskCall}
-use Rattle.world_spec.specs.declared.TaskCall.TheVariants as TaskCall
+use Rattle.world_spec.specs.declared.tasks.TaskCall.{TaskCall}
+use Rattle.world_spec.specs.declared.tasks.TaskCall.TheVariants as TaskCall
 
 -- whether a call on tasks may leave its caller with other credentials
 abbrev pub task_renews : TaskCall → Bool

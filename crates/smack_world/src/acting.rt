@@ -2,8 +2,7 @@ ghost use Rattle.std.specs.Prelude.{◌≡◌, ◌<◌, None, false, length, is_
 ghost use Rattle.rule_fold.specs.Index.{ruling_of};
 ghost use Rattle.rules_spec.specs.Rulings.{Ruling};
 ghost use Rattle.world_spec.specs.Worlds.{creds_of};
-ghost use Rattle.world_spec.specs.Questions.{call_asks, asks};
-ghost use Rattle.world_spec.specs.Steps.{went, verdict_of, effect as effect_of, step};
+ghost use Rattle.world_spec.specs.Steps.{call_asks, asks, went, verdict_of, effect as effect_of, step};
 ghost use Rattle.world_state.specs.Seen.{world_seen};
 ghost use Rattle.world_state.specs.Judging.{went_in, Passes};
 ghost use Rattle.smack_world.specs.Renewing.{task_renews as task_renews_by, renews as renews_by};

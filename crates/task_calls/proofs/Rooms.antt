@@ -8,10 +8,11 @@ use Rattle.rules_spec.specs.Creds.{Creds, with_self_rules, most_self_rules, most
 use Rattle.rules_spec.specs.AskedModes.{write}
 use Rattle.world_spec.specs.declared.Part.TheVariants as Part
 use Rattle.world_spec.specs.declared.Why.TheVariants as Why
-use Rattle.world_spec.specs.declared.TaskCall.TheVariants as TaskCall
+use Rattle.world_spec.specs.declared.tasks.TaskCall.TheVariants as TaskCall
 use Rattle.world_spec.specs.Signals.{is_signal}
 use Rattle.world_spec.specs.Worlds.{World, live_task, creds_of, most_tasks}
-use Rattle.world_spec.specs.Questions.{task_asks, asks_for, if_found}
+use Rattle.world_spec.specs.Questions.{asks_for, if_found}
+use Rattle.world_spec.specs.TaskCalls.{task_asks}
 use Rattle.world_state.specs.Judging.{Passes}
 
 -- where a fork is not refused, there is room for a task

@@ -1,8 +1,8 @@
 use Rattle.std.specs.Prelude.{List}
 use Rattle.rule_fold.specs.Index.{ruling_of}
 use Rattle.world_spec.specs.declared.Part.{Part}
-use Rattle.world_spec.specs.declared.TaskCall.{TaskCall}
-use Rattle.world_spec.specs.Questions.{task_asks}
+use Rattle.world_spec.specs.declared.tasks.TaskCall.{TaskCall}
+use Rattle.world_spec.specs.TaskCalls.{task_asks}
 use Rattle.world_state.specs.Seen.{world_seen}
 use Rattle.world_state.specs.declared.caller.Caller.{Caller}
 

@@ -8,8 +8,6 @@
 //! they change there.
 #![tactic(auto)]
 
-mod effects;
-mod questions;
+mod calls;
 
-pub use effects::{task_effect, task_reply};
-pub use questions::task_judgement;
+pub use calls::{task_effect, task_judgement, task_reply};

@@ -4,11 +4,11 @@ use Rattle.smack_base.specs.Modes.{modes_of}
 use Rattle.smack_base.specs.declared.cap.Cap.{Cap}
 use Rattle.smack_base.specs.declared.ids.LabelId.{LabelId}
 use Rattle.smack_base.specs.declared.rule_op.Pair.{Pair}
-use Rattle.script_spec.specs.declared.TraceWay.TheVariants as TraceWay
+use Rattle.world_spec.specs.declared.tasks.TraceWay.TheVariants as TraceWay
 use Rattle.script_spec.specs.Words.{absent, cap_of}
 use Rattle.script_spec.specs.Lines.{ScriptLine}
-use Rattle.world_spec.specs.declared.TaskCall.TheVariants as TaskCall
-use Rattle.world_spec.specs.declared.TreeCall.TheVariants as TreeCall
+use Rattle.world_spec.specs.declared.tasks.TaskCall.TheVariants as TaskCall
+use Rattle.world_spec.specs.declared.trees.TreeCall.TheVariants as TreeCall
 use Rattle.world_spec.specs.declared.Call.{Call}
 use Rattle.log_spec.specs.Shown.{LabelAt, spelled}
 use Rattle.log_spec.specs.Audits.{is_word}

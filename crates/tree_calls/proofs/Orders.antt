@@ -5,7 +5,7 @@ use Rattle.std.specs.BTreeSet.{insert_key}
 use Rattle.std.proofs.lemmas.List.{take-map, drop-map}
 use Rattle.world_spec.specs.declared.FileRow.{FileRow}
 use Rattle.world_spec.specs.Worlds.{file_names, in_byte_order}
-use Rattle.world_spec.specs.Steps.{most_names}
+use Rattle.world_spec.specs.TreeCalls.{most_names}
 use Rattle.tree_calls.specs.Shown.{lists_of}
 
 -- some of the names shown are those of some of the names

@@ -2,9 +2,9 @@ use Rattle.std.proofs.Common.{◌≡◌, ◌+◌, ◌<◌, ℕ, List, [], ◌∷
 use Rattle.std.proofs.lemmas.Bool.{leb-false}
 use Rattle.rules_spec.specs.Rulings.{Ruling}
 use Rattle.rules_spec.specs.Creds.{Creds}
-use Rattle.world_spec.specs.declared.TreeCall.TheVariants as TreeCall
+use Rattle.world_spec.specs.declared.trees.TreeCall.TheVariants as TreeCall
 use Rattle.world_spec.specs.Worlds.{World, most_nodes}
-use Rattle.world_spec.specs.Questions.{tree_asks}
+use Rattle.world_spec.specs.TreeCalls.{tree_asks}
 use Rattle.world_state.specs.Judging.{Passes}
 
 -- where a file is not refused, there is room for it

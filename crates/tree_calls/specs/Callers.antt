@@ -1,8 +1,8 @@
 use Rattle.std.specs.Prelude.{List}
 use Rattle.rule_fold.specs.Index.{ruling_of}
 use Rattle.world_spec.specs.declared.Part.{Part}
-use Rattle.world_spec.specs.declared.TreeCall.{TreeCall}
-use Rattle.world_spec.specs.Questions.{tree_asks}
+use Rattle.world_spec.specs.declared.trees.TreeCall.{TreeCall}
+use Rattle.world_spec.specs.TreeCalls.{tree_asks}
 use Rattle.world_state.specs.Seen.{world_seen}
 use Rattle.world_state.specs.declared.caller.Caller.{Caller}
 

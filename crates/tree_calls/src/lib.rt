@@ -7,9 +7,7 @@
 //! Stands on world_state for what calls act on.
 #![tactic(auto)]
 
-mod effects;
+mod calls;
 mod names;
-mod questions;
 
-pub use effects::{tree_answer, tree_effect};
-pub use questions::tree_judgement;
+pub use calls::{tree_answer, tree_effect, tree_judgement};

@@ -1,6 +1,6 @@
 ghost use Rattle.std.specs.Prelude.{◌≡◌, map, take, drop, IfOk};
 ghost use Rattle.world_spec.specs.Worlds.{file_names, in_byte_order};
-ghost use Rattle.world_spec.specs.Steps.{most_names};
+ghost use Rattle.world_spec.specs.TreeCalls.{most_names};
 ghost use Rattle.tree_calls.specs.Shown.{lists_of};
 
 use std::alloc::{AllocError, Global};

@@ -3,15 +3,17 @@ use Rattle.std.proofs.Common.{◌≡◌, ◌<◌, ℕ, zero, suc, false, List, [
 use Rattle.std.proofs.lemmas.Bool.{ne_eqb}
 use Rattle.smack_base.specs.declared.ids.Pid.{Pid}
 use Rattle.rules_spec.specs.Rulings.{Ruling}
-use Rattle.world_spec.specs.declared.TaskCall.{TaskCall}
-use Rattle.world_spec.specs.declared.TaskCall.TheVariants as TaskCall
+use Rattle.world_spec.specs.declared.tasks.TaskCall.{TaskCall}
+use Rattle.world_spec.specs.declared.tasks.TaskCall.TheVariants as TaskCall
 use Rattle.world_spec.specs.declared.Call.{Call}
 use Rattle.world_spec.specs.declared.Call.TheVariants as Call
 use Rattle.world_spec.specs.declared.Answer.{Answer}
 use Rattle.world_spec.specs.declared.Answer.TheVariants as Answer
 use Rattle.world_spec.specs.Replies.{answered, child_of, is_number, makes}
 use Rattle.world_spec.specs.Worlds.{World, TaskRow, changed_at, live_task}
-use Rattle.world_spec.specs.Steps.{TaskEffect, NoChange, NewCreds, LifeEnds, NewChild, NewSignal, SignalTaken, tasks_after, signalled, task_left, tree_left, task_reply, effect}
+use Rattle.world_spec.specs.TaskCalls.{TaskEffect, NoChange, NewCreds, LifeEnds, NewChild, NewSignal, SignalTaken, tasks_after, signalled, task_left}
+use Rattle.world_spec.specs.TreeCalls.{tree_left}
+use Rattle.world_spec.specs.Steps.{task_reply, effect}
 
 -- no task begins
 abbrev pub BeginsNone : TaskEffect → Type 0

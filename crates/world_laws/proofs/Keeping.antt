@@ -10,8 +10,8 @@ use Rattle.world_spec.specs.declared.Answer.{Answer}
 use Rattle.world_spec.specs.declared.Reply.{Reply}
 use Rattle.world_spec.specs.Replies.{makes}
 use Rattle.world_spec.specs.Worlds.{World, TaskRow, creds_in, creds_or_first, creds_of, changed_at, with_child}
-use Rattle.world_spec.specs.Steps.{Effect, TaskEffect, NoChange, NewCreds, LifeEnds, NewChild, NewSignal, SignalTaken, tasks_after, task_reply, task_left, effect, stepped, went, verdict_of}
-use Rattle.world_spec.specs.Questions.{asks}
+use Rattle.world_spec.specs.TaskCalls.{TaskEffect, NoChange, NewCreds, LifeEnds, NewChild, NewSignal, SignalTaken, tasks_after, task_left}
+use Rattle.world_spec.specs.Steps.{Effect, task_reply, effect, stepped, went, verdict_of, asks}
 use Rattle.world_laws.specs.Laws.{OthersKeepCreds}
 
 -- a change of the row of a number that leaves the credentials of another

@@ -1,30 +1,31 @@
-use Rattle.std.specs.Prelude.{ℕ, if◌then◌else◌, List, [], ◌∷◌, Option, Some, None, length, take, drop}
-use Rattle.smack_base.specs.declared.ids.LabelId.{LabelId}
-use Rattle.smack_base.specs.declared.ids.Pid.{Pid}
-use Rattle.smack_base.specs.declared.cap.Cap.TheVariants as Cap
-use Rattle.rules_spec.specs.declared.Verdict.{Verdict}
+use Rattle.std.specs.Prelude.{ℕ, not, List, [], ◌∷◌, Option, Some, None, length, if◌then◌else◌}
 use Rattle.rules_spec.specs.Rulings.{Ruling}
-use Rattle.rules_spec.specs.Creds.{Creds, is_effective, with_label, without_cap, with_self_rules}
-use Rattle.rules_spec.specs.Verdicts.{full_verdict, attach_verdict}
+use Rattle.rules_spec.specs.Creds.{Creds}
+use Rattle.world_spec.specs.declared.Why.{Why}
+use Rattle.world_spec.specs.declared.Why.TheVariants as Why
 use Rattle.world_spec.specs.declared.Question.{Question}
 use Rattle.world_spec.specs.declared.Question.TheVariants as Question
 use Rattle.world_spec.specs.declared.Part.{Part}
 use Rattle.world_spec.specs.declared.Part.TheVariants as Part
-use Rattle.world_spec.specs.declared.TaskCall.{TaskCall}
-use Rattle.world_spec.specs.declared.TaskCall.TheVariants as TaskCall
-use Rattle.world_spec.specs.declared.TreeCall.{TreeCall}
-use Rattle.world_spec.specs.declared.TreeCall.TheVariants as TreeCall
 use Rattle.world_spec.specs.declared.Call.{Call}
 use Rattle.world_spec.specs.declared.Call.TheVariants as Call
-use Rattle.world_spec.specs.declared.FileRow.{FileRow}
+use Rattle.world_spec.specs.Worlds.{World, is_live, creds_of, TaskRow}
+use Rattle.rules_spec.specs.declared.Verdict.{Verdict}
+use Rattle.rules_spec.specs.Verdicts.{full_verdict, attach_verdict}
 use Rattle.world_spec.specs.declared.Answer.{Answer}
-use Rattle.world_spec.specs.declared.Answer.TheVariants as Answer
 use Rattle.world_spec.specs.declared.Reply.{Reply}
 use Rattle.world_spec.specs.declared.Reply.TheVariants as Reply
-use Rattle.world_spec.specs.Signals.{with_signal, least_signal, without_least}
 use Rattle.world_spec.specs.Replies.{answered}
-use Rattle.world_spec.specs.Worlds.{World, TaskRow, live_task, creds_in, creds_or_first, creds_of, pending_in, pending_or_none, pending_of, with_creds, with_pending, without_life, with_child, with_file, without_file, file_names, in_byte_order}
-use Rattle.world_spec.specs.Questions.{asks, first_name}
+use Rattle.world_spec.specs.TaskCalls.{task_asks, TaskEffect, tasks_after, TaskLeft, task_left, NewChild}
+use Rattle.world_spec.specs.TreeCalls.{tree_asks, TreeLeft, tree_left}
+
+abbrev pub call_asks : World → Ruling → ℕ → Creds → Call → List Part
+call_asks w version task c (Call.Task call) = task_asks w version task c call
+call_asks w version task c (Call.Tree call) = tree_asks w version task c call
+
+-- the refusals and questions of a call of a task, in order; first of all, the task must be live
+abbrev pub asks : World → Ruling → ℕ → Call → List Part
+asks w version task call = Part.Refuses (not (is_live w.tasks task)) Why.NoSuchTask ∷ call_asks w version task (creds_of w task) call
 
 -- what the refusals and questions of a call came to: the verdicts asked, and the reply where one ends the call
 pub record Went : Type 0 where
@@ -45,82 +46,6 @@ went verdict (Part.Asks question ∷ more) = asked (verdict question) (went verd
 unfoldable pub verdict_of : World → Ruling → Question → Verdict
 verdict_of w version (Question.Full by s o m) = full_verdict (creds_of w by) version s o m
 verdict_of w version (Question.Attach by o) = attach_verdict (creds_of w by) version o
-
--- the most names of one listing
-abbrev pub most_names : ℕ
-most_names = 16
-
--- a task without CAP_MAC_ADMIN may take another label once
-abbrev pub relabelled : Creds → Ruling → LabelId → Creds
-relabelled c version l =
-    if is_effective c Cap.MacAdmin version then with_label c l else record (with_label c l) { relabels = [] }
-
--- What a call does to the tasks: it keeps all as they are, the caller has these credentials, it is not live any more, it
--- begins a child of this pid, a signal comes to wait for the task of a number, or the caller takes its least signal.
-pub data TaskEffect : Type 0 where
-  NoChange : TaskEffect
-  NewCreds : Creds → TaskEffect
-  LifeEnds : TaskEffect
-  NewChild : Pid → TaskEffect
-  NewSignal : ℕ → ℕ → TaskEffect
-  SignalTaken : TaskEffect
-
--- The tasks after a call of a task. A child has a copy of its parent's credentials and no signal that waits, and the
--- next number.
-abbrev pub tasks_after : List TaskRow → ℕ → TaskEffect → List TaskRow
-tasks_after tasks task NoChange = tasks
-tasks_after tasks task (NewCreds creds) = with_creds tasks task creds
-tasks_after tasks task LifeEnds = without_life tasks task
-tasks_after tasks task (NewChild pid) = with_child tasks pid (creds_or_first (creds_in tasks task))
-tasks_after tasks task (NewSignal n sig) = with_pending tasks n (with_signal (pending_or_none (pending_in tasks n)) sig)
-tasks_after tasks task SignalTaken = with_pending tasks task (without_least (pending_or_none (pending_in tasks task)))
-
--- a signal comes to wait for the task of a number, where there is one
-abbrev pub signalled : Option ℕ → ℕ → TaskEffect
-signalled None sig = NoChange
-signalled (Some n) sig = NewSignal n sig
-
--- the answer that tells a signal, where there is one
-abbrev pub signal_answer : Option ℕ → Answer
-signal_answer None = Answer.Ok
-signal_answer (Some sig) = Answer.Signal sig
-
--- what a call on tasks leaves: what it does to the tasks, and an answer
-pub record TaskLeft : Type 0 where
-  pub change : TaskEffect
-  pub answer : Answer
-
--- the call does this and says no more than that it was done
-abbrev pub only_does : TaskEffect → TaskLeft
-only_does change = record { change = change; answer = Answer.Ok }
-
-abbrev pub task_left : World → Ruling → ℕ → TaskCall → TaskLeft
-task_left w version task (TaskCall.Fork pid) = only_does (NewChild pid)
-task_left w version task TaskCall.Exit = only_does LifeEnds
-task_left w version task (TaskCall.Relabel l) = only_does (NewCreds (relabelled (creds_of w task) version l))
-task_left w version task (TaskCall.DropCap cap) = only_does (NewCreds (without_cap (creds_of w task) cap))
-task_left w version task (TaskCall.SelfRules rules) =
-    only_does (NewCreds (record (creds_of w task) { self_rules = with_self_rules (creds_of w task).self_rules rules }))
-task_left w version task (TaskCall.Relabels labels) = only_does (NewCreds (record (creds_of w task) { relabels = labels }))
-task_left w version task (TaskCall.Kill pid sig) = only_does (signalled (live_task w.tasks pid) sig)
-task_left w version task TaskCall.Take = record { change = SignalTaken; answer = signal_answer (least_signal (pending_of w task)) }
-task_left w version task (TaskCall.TraceRead pid) = only_does NoChange
-task_left w version task (TaskCall.TraceAttach pid) = only_does NoChange
-
--- what a call on the tree leaves: the files, and an answer
-pub record TreeLeft : Type 0 where
-  pub files : List FileRow
-  pub answer : Answer
-
--- a new file has its creator's label
-abbrev pub tree_left : World → Ruling → ℕ → TreeCall → TreeLeft
-tree_left w version task (TreeCall.Create path) =
-    record { files = with_file w.files (record { name = first_name path; label = (creds_of w task).label }); answer = Answer.Ok }
-tree_left w version task (TreeCall.Unlink path) = record { files = without_file w.files (first_name path); answer = Answer.Ok }
-tree_left w version task (TreeCall.ListDir path at) = record {
-  files = w.files;
-  answer = Answer.Names (length w.files) (take most_names (drop at (in_byte_order (file_names w.files))));
-}
 
 -- the world and the reply that an effect leaves
 pub record Effect : Type 0 where

@@ -4,7 +4,8 @@
 //! A call of a task is a list of parts and then an effect. The parts are refusals and questions, in
 //! order (`Questions`). The first refusal that applies, or the first question that is denied, is
 //! its reply, and the world stays as it was. Where there is none, the call has its effect
-//! (`Steps`). Each call leaves an entry in the trail, and `Replays` takes the entries of a trail one
+//! (`Steps`). Each family says of its calls what their parts are and what they leave (`TaskCalls`,
+//! `TreeCalls`). Each call leaves an entry in the trail, and `Replays` takes the entries of a trail one
 //! after another from the first world.
 #![tactic(auto)]
 
@@ -12,91 +13,21 @@ ghost use Rattle.std.specs.Prelude.{◌≡◌};
 ghost use Rattle.world_spec.specs.Replies.{answered, child_of};
 
 mod listing;
+mod tasks;
+mod trees;
 
 pub use listing::{ListedNames, Listing};
 use rules_spec::Checks;
-use smack_base::{Bytes, Cap, Duplicate, Ids, LabelId, Modes, Pairs, Path, Pid, Sequence};
+use smack_base::{Bytes, Duplicate, LabelId, Modes, Sequence};
 use std::alloc::AllocError;
+pub use tasks::{TaskCall, TaskVerb, TraceWay};
+pub use trees::{TreeCall, TreeVerb};
 
 /// A file of the root directory.
 #[derive(Drop)]
 pub struct FileRow {
     pub name: Bytes,
     pub label: LabelId,
-}
-
-/// A call on tasks: on the calling task, or on the live task of a pid.
-#[derive(Drop)]
-pub enum TaskCall {
-    /// Makes a task with this pid, which no task ever had. It has a copy of its parent's
-    /// credentials, and no signal waits for it.
-    Fork { pid: Pid },
-    /// The calling task is not live any more.
-    Exit,
-    /// Takes another label (Smack guide, "relabel-self").
-    Relabel { l: LabelId },
-    /// Gives a capability up.
-    DropCap { cap: Cap },
-    /// Adds rules that restrict the calling task (Smack guide, "load-self2").
-    SelfRules { rules: Pairs },
-    /// Replaces the list of labels that the calling task may take (Smack guide, "relabel-self").
-    Relabels { labels: Ids },
-    /// Sends a signal, from 1 to 31, to a task.
-    Kill { pid: Pid, sig: u8 },
-    /// Takes the least signal that waits for the calling task.
-    Take,
-    /// Reads a task by ptrace.
-    TraceRead { pid: Pid },
-    /// Attaches to a task by ptrace.
-    TraceAttach { pid: Pid },
-}
-
-impl Duplicate for TaskCall {
-    fn copy(&self) -> Result<TaskCall, AllocError> {
-        match self {
-            TaskCall::Fork { pid } => Ok(TaskCall::Fork { pid: *pid }),
-            TaskCall::Exit => Ok(TaskCall::Exit),
-            TaskCall::Relabel { l } => Ok(TaskCall::Relabel { l: *l }),
-            TaskCall::DropCap { cap } => Ok(TaskCall::DropCap { cap: *cap }),
-            TaskCall::SelfRules { rules } => Ok(TaskCall::SelfRules {
-                rules: rules.copy()?,
-            }),
-            TaskCall::Relabels { labels } => Ok(TaskCall::Relabels {
-                labels: labels.copy()?,
-            }),
-            TaskCall::Kill { pid, sig } => Ok(TaskCall::Kill {
-                pid: *pid,
-                sig: *sig,
-            }),
-            TaskCall::Take => Ok(TaskCall::Take),
-            TaskCall::TraceRead { pid } => Ok(TaskCall::TraceRead { pid: *pid }),
-            TaskCall::TraceAttach { pid } => Ok(TaskCall::TraceAttach { pid: *pid }),
-        }
-    }
-}
-
-/// A call on the file tree.
-#[derive(Drop)]
-pub enum TreeCall {
-    /// Makes an empty file.
-    Create { path: Path },
-    /// Takes a file away.
-    Unlink { path: Path },
-    /// Names up to 16 entries of a directory, from this one on in byte order, counted from 0.
-    ListDir { path: Path, at: u32 },
-}
-
-impl Duplicate for TreeCall {
-    fn copy(&self) -> Result<TreeCall, AllocError> {
-        match self {
-            TreeCall::Create { path } => Ok(TreeCall::Create { path: path.copy()? }),
-            TreeCall::Unlink { path } => Ok(TreeCall::Unlink { path: path.copy()? }),
-            TreeCall::ListDir { path, at } => Ok(TreeCall::ListDir {
-                path: path.copy()?,
-                at: *at,
-            }),
-        }
-    }
 }
 
 /// A call that a task makes, by families.

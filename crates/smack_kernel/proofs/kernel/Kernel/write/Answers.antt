@@ -4,7 +4,7 @@ use Rattle.file_spec.specs.Files.{compiled}
 use Rattle.smack_kernel.specs.Tasks.{TaskValue, KernelValue, Loads, most_calls}
 use Rattle.file_spec.specs.declared.Compiled.TheVariants as Compiled
 use Rattle.world_spec.specs.declared.Call.TheVariants as Call
-use Rattle.world_spec.specs.declared.TaskCall.TheVariants as TaskCall
+use Rattle.world_spec.specs.declared.tasks.TaskCall.TheVariants as TaskCall
 use Rattle.smack_kernel.specs.Answers.{IsWritten, TakesPen, written_call}
 use Rattle.smack_kernel.specs.declared.kernel.Written.{Written}
 use Rattle.smack_kernel.specs.declared.kernel.Written.TheVariants as Written

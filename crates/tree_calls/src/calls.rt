@@ -1,16 +1,19 @@
-ghost use Rattle.std.specs.Prelude.{◌≡◌, ◌++◌, is_none, None, IfOk, OnOk};
+ghost use Rattle.std.specs.Prelude.{◌≡◌, ◌++◌, is_none, None, IfOk, OnOk, ℕ, OnErr};
 ghost use Rattle.rule_fold.specs.Index.{ruling_of};
-ghost use Rattle.world_spec.specs.Worlds.{label_of as label_of_name};
-ghost use Rattle.world_spec.specs.Questions.{walk_to_last, first_name as first_of, label_at as label_at_of};
+ghost use Rattle.world_spec.specs.Worlds.{label_of as label_of_name, creds_of};
+ghost use Rattle.world_spec.specs.TreeCalls.{walk_to_last, first_name as first_of, label_at as label_at_of, tree_asks, tree_left};
 ghost use Rattle.world_spec.specs.Steps.{went, verdict_of};
 ghost use Rattle.world_state.specs.Seen.{world_seen};
 ghost use Rattle.world_state.specs.Judging.{went_in, Passes};
 ghost use Rattle.tree_calls.specs.Callers.{tree_asks_of};
+ghost use Rattle.rules_spec.specs.Rulings.{Ruling};
 
+use crate::names::names_from;
+use rule_fold::RuleIndex;
 use rules_spec::{EXECUTE, READ, READ_WRITE};
 use smack_base::{Bytes, LabelId, Path};
 use std::alloc::{AllocError, Global};
-use world_spec::{Part, TreeCall, Why};
+use world_spec::{Answer, FileRow, Part, TreeCall, Why};
 use world_state::{Caller, Judgement, ROOT, State, asks_for, judge_parts};
 
 /// The most nodes of the tree, the root included.
@@ -23,7 +26,7 @@ const NO_NAME: Part = Part::Refuses {
 };
 
 /// The first name of a path; `/` has none, and no bytes stand for it.
-pub(crate) fn first_name(names: &[Bytes]) -> &[u8]
+fn first_name(names: &[Bytes]) -> &[u8]
     ensures { result.now ≡ first_of names.now }
 {
     match names {
@@ -158,4 +161,54 @@ pub fn tree_judgement(
         TreeCall::ListDir { path, at: _ } => list_parts(alloc, caller, path)?,
     };
     judge_parts(alloc, caller.state, caller.rules, parts.as_slice())
+}
+
+/// The answer to a call on the tree that goes through, whichever task makes it.
+pub fn tree_answer(alloc: Global, state: &State, call: &TreeCall) -> Result<Answer, AllocError>
+    ensures { IfOk result (λ answer. (version : Ruling) (task : ℕ) → answer ≡ (tree_left (world_seen state.now) version task call.now).answer) }
+{
+    match call {
+        TreeCall::Create { path: _ } => Ok(Answer::Ok),
+        TreeCall::Unlink { path: _ } => Ok(Answer::Ok),
+        TreeCall::ListDir { path: _, at } => Ok(Answer::Names {
+            count: state.files.len(),
+            names: names_from(alloc, state.files.rows(), *at)?,
+        }),
+    }
+}
+
+/// An empty file with its creator's label.
+fn new_file(alloc: Global, state: &State, task: u16, path: &Path) -> Result<FileRow, AllocError>
+    ensures { IfOk result (λ file. file ≡ record { name = first_of path.now; label = (creds_of (world_seen state.now) task).label }) }
+{
+    Ok(FileRow {
+        name: Bytes::from_slice(alloc, first_name(path.names()))?,
+        label: state.label_of(task),
+    })
+}
+
+/// Puts a call on the tree into effect, where nothing refuses it; on want of memory nothing changes.
+#[tactic(auto, using(crate::proofs::Rooms::room_of_create))]
+pub fn tree_effect(
+    alloc: Global,
+    state: &mut State,
+    rules: &RuleIndex,
+    task: u16,
+    call: &TreeCall,
+) -> Result<(), AllocError>
+    requires { Passes (tree_asks (world_seen state.old) (ruling_of rules.now) task (creds_of (world_seen state.old) task) call.now) }
+    ensures ok { OnOk result (world_seen state.new ≡ record (world_seen state.old) { files = (tree_left (world_seen state.old) (ruling_of rules.now) task call.now).files }) }
+    ensures err { OnErr result (world_seen state.new ≡ world_seen state.old) }
+{
+    match call {
+        TreeCall::Create { path } => {
+            let file = new_file(alloc, state, task, path)?;
+            state.files.put(file)
+        }
+        TreeCall::Unlink { path } => {
+            state.files.take(first_name(path.names()));
+            Ok(())
+        }
+        TreeCall::ListDir { path: _, at: _ } => Ok(()),
+    }
 }
