@@ -6,4 +6,3 @@ pub mod TreeCalls
 pub mod Replies
 pub mod Steps
 pub mod Replays
-pub mod Listings

@@ -14,6 +14,7 @@ use Rattle.world_spec.specs.declared.FileRow.{FileRow}
 use Rattle.world_spec.specs.declared.Answer.{Answer}
 use Rattle.world_spec.specs.declared.Answer.TheVariants as Answer
 use Rattle.world_spec.specs.Questions.{asks_for, if_found}
+pub use Rattle.tree_spec.specs.Listed.{most_names}
 
 abbrev pub is_root : List (List ℕ) → Bool
 is_root [] = true
@@ -48,10 +49,6 @@ tree_asks w version task c (TreeCall.Unlink path) =
 tree_asks w version task c (TreeCall.ListDir path at) =
     walk_to_last w task c path
     ++ if_found (label_at w path) Why.NoSuchName (λ l. asks_for task c read l ∷ Part.Refuses (not (is_root path)) Why.NotDirectory ∷ [])
-
--- the most names of one listing
-abbrev pub most_names : ℕ
-most_names = 16
 
 -- what a call on the tree leaves: the files, and an answer
 pub record TreeLeft : Type 0 where

@@ -1,8 +1,5 @@
-use Rattle.std.specs.Prelude.{ℕ, ◌+◌, ◌&&◌, ◌==◌, Bool, true, false, List, [], ◌∷◌, ◌++◌, Option, Some, None, length, map, fold, position, zero, suc}
+use Rattle.std.specs.Prelude.{ℕ, ◌+◌, ◌&&◌, ◌==◌, Bool, true, false, List, [], ◌∷◌, ◌++◌, Option, Some, None, length, map, position, zero, suc}
 use Rattle.std.specs.List.{find, list_any, position_or_len, remove, slice_get}
-use Rattle.std.specs.Cmp.Lexicographic.{slice_cmp}
-use Rattle.std.specs.Ordering.{nat_cmp}
-use Rattle.std.specs.BTreeSet.{insert_key}
 use Rattle.std.specs.Option.{option_map}
 use Rattle.std.specs.Str.{bytes_eq}
 use Rattle.smack_base.specs.declared.ids.LabelId.{LabelId}
@@ -10,6 +7,7 @@ use Rattle.smack_base.specs.declared.ids.Pid.{Pid}
 use Rattle.world_spec.specs.declared.FileRow.{FileRow}
 use Rattle.rules_spec.specs.Versions.{floor}
 use Rattle.rules_spec.specs.Creds.{Creds, creds_first}
+pub use Rattle.tree_spec.specs.Listed.{in_byte_order}
 
 -- A task: the caller's name for it, whether it is live, its credentials, and the signals that wait for it. A task that
 -- has exited stays, with its credentials.
@@ -133,7 +131,3 @@ without_file files name = remove files (position_or_len (is_named name) files)
 
 abbrev pub file_names : List FileRow → List (List ℕ)
 file_names files = map (λ f. f.name) files
-
--- names in byte order: each at its place among those that came before it
-abbrev pub in_byte_order : List (List ℕ) → List (List ℕ)
-in_byte_order names = fold (insert_key (slice_cmp nat_cmp)) [] names

@@ -12,15 +12,14 @@
 ghost use Rattle.std.specs.Prelude.{◌≡◌};
 ghost use Rattle.world_spec.specs.Replies.{answered, child_of};
 
-mod listing;
 mod tasks;
 mod trees;
 
-pub use listing::{ListedNames, Listing};
 use rules_spec::Checks;
 use smack_base::{Bytes, Duplicate, LabelId, Modes, Sequence};
 use std::alloc::AllocError;
 pub use tasks::{TaskCall, TaskVerb, TraceWay};
+pub use tree_spec::{ListedNames, Listing};
 pub use trees::{TreeCall, TreeVerb};
 
 /// A file of the root directory.

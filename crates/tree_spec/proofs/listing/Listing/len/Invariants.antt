@@ -1,5 +1,5 @@
 use Rattle.std.proofs.Common.{◌≡◌, ◌+◌, length}
-use Rattle.world_spec.proofs.listing.Listing.len.Given as goal
+use Rattle.tree_spec.proofs.listing.Listing.len.Given as goal
 
 abbrev pub invariant-loop-left : goal.invariant-loop-left
 invariant-loop-left l = l.count + length l.left ≡ length l.self

@@ -1,6 +1,6 @@
 use Rattle.std.proofs.Common.{◌≡◌, ◌+◌, length}
-use Rattle.world_spec.specs.Listings.{told_length, behind_length}
-use Rattle.world_spec.proofs.listing.split_length.Given as goal
+use Rattle.tree_spec.specs.Listings.{told_length, behind_length}
+use Rattle.tree_spec.proofs.listing.split_length.Given as goal
 
 abbrev pub invariant-loop-rest : goal.invariant-loop-rest
 invariant-loop-rest l = record {

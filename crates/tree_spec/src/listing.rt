@@ -1,6 +1,6 @@
 ghost use Rattle.std.specs.Prelude.{◌≡◌, [], ◌∷◌, ◌++◌, ◌+◌, ◌≤◌, ◌/◌, length, IfOk, OnOk, OnErr, MatchOption};
 ghost use Rattle.std.specs.Vec.{vec_len, vec_capacity};
-ghost use Rattle.world_spec.specs.Listings.{name_bytes, told_length, behind_length, first_listed, behind_first};
+ghost use Rattle.tree_spec.specs.Listings.{name_bytes, told_length, behind_length, first_listed, behind_first};
 
 use smack_base::Duplicate;
 use std::alloc::{AllocError, Global};
@@ -17,7 +17,7 @@ pub struct Listing {
 
 impl Model for Listing {
     ghost use Rattle.std.specs.Prelude.{◌≡◌, List, ℕ};
-    ghost use Rattle.world_spec.specs.Listings.{names_in, listing_bytes};
+    ghost use Rattle.tree_spec.specs.Listings.{names_in, listing_bytes};
 
     ghost Value = { List (List ℕ) };
 
@@ -34,7 +34,7 @@ pub struct ListedNames<'a> {
 
 impl<'a> Model for ListedNames<'a> {
     ghost use Rattle.std.specs.Prelude.{◌≡◌, List, ℕ};
-    ghost use Rattle.world_spec.specs.Listings.{names_in, listing_bytes};
+    ghost use Rattle.tree_spec.specs.Listings.{names_in, listing_bytes};
 
     ghost Value = { List (List ℕ) };
 

@@ -6,7 +6,7 @@ use Rattle.std.proofs.lemmas.Bool.{cases_Bool, ne_eqb}
 use Rattle.std.proofs.lemmas.Grind.{flat_map-append}
 use Rattle.std.proofs.Math.Seq.{take-append_seam, drop-append_seam}
 use Rattle.std.proofs.lemmas.List.{length-append, append-nil}
-use Rattle.world_spec.specs.Listings.{name_bytes, listing_bytes, told_length, behind_length, first_listed, behind_first, names_within, names_in}
+use Rattle.tree_spec.specs.Listings.{name_bytes, listing_bytes, told_length, behind_length, first_listed, behind_first, names_within, names_in}
 
 told_of : (q r : ℕ) (bs : List ℕ) → r < 255 → told_length (replicate q 255 ++ r ∷ bs) ≡ q * 255 + r
 told_of zero r bs small = simp (ne_eqb r 255 (λ e. omega (arith, e, small))) (omega arith)
