@@ -1,2 +1,4 @@
+pub mod Trees
 pub mod Listed
+pub mod Attributes
 pub mod Listings
