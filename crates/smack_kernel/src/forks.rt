@@ -15,39 +15,16 @@ ghost use Rattle.smack_kernel.specs.Tasks.{IsTaskState, Stays, task_of};
 ghost use Rattle.smack_kernel.specs.Turns.{IsMade};
 ghost use Rattle.smack_kernel.specs.Forks.{task_made, IsBranched, MayFork, Drew, Forks};
 
-use crate::index::{Index, read_up};
+use crate::basis::Basis;
+use crate::index::read_up;
 use crate::task::Task;
 use crate::turns::{Turned, make_call};
 use crate::world_machine::WorldMachine;
 use live_table::{LiveTable, TaskSeat};
-use smack_base::{Duplicate, Pid};
+use smack_base::Pid;
 use std::alloc::{AllocError, Global};
 use std::sync::Wait;
-use task_creds::Cred;
 use world_spec::{Call, TaskCall};
-
-/// What a child has of its parent.
-#[derive(Drop)]
-struct Heritage {
-    index: Index,
-    creds: Cred,
-}
-
-/// Copies of a parent's rules and credentials.
-fn inherit(index: &Index, creds: &Cred) -> Result<Heritage, AllocError>
-    ensures index { IfOk result (λ h. h.index ≡ index.now) }
-    ensures creds { IfOk result (λ h. h.creds ≡ creds.now) }
-{
-    let rules = index.rules.copy()?;
-    let creds = creds.copy()?;
-    Ok(Heritage {
-        index: Index {
-            rules,
-            rows: index.rows,
-        },
-        creds,
-    })
-}
 
 /// Whether a call made a task.
 fn makes_task(turned: &Turned) -> bool
@@ -64,36 +41,35 @@ fn fork_in_turn(
     alloc: Global,
     table: &LiveTable<WorldMachine>,
     seat: &mut TaskSeat<WorldMachine>,
-    index: &mut Index,
-    creds: &mut Cred,
+    basis: &mut Basis,
     machine: &mut WorldMachine,
     seq: u32,
     pid: Pid,
-) -> Result<(Turned, Heritage), AllocError>
+) -> Result<(Turned, Basis), AllocError>
     requires table { seat.old.table ≡ table.now }
-    requires stands { StandsAt index.old.rules index.old.rows seat.old.view.journal }
+    requires stands { StandsAt basis.old.index.rules basis.old.index.rows seat.old.view.journal }
     requires world { StandsOver seat.old.view.journal machine.old.trail machine.old.world }
     requires alive { seat.old.number < length machine.old.world.tasks }
-    requires creds { creds.old ≡ creds_of machine.old.world seat.old.number }
+    requires creds { basis.old.creds ≡ creds_of machine.old.world seat.old.number }
     ensures same { seat.new ≡ with_loads seat.new.view.loads seat.old }
-    ensures stands { StandsAt index.new.rules index.new.rows seat.old.view.journal }
-    ensures later { index.old.rules.version ≤ index.new.rules.version }
-    ensures whole { OnOk result (index.new.rules.version ≡ length seat.old.view.journal) }
+    ensures stands { StandsAt basis.new.index.rules basis.new.index.rows seat.old.view.journal }
+    ensures later { basis.old.index.rules.version ≤ basis.new.index.rules.version }
+    ensures whole { OnOk result (basis.new.index.rules.version ≡ length seat.old.view.journal) }
     ensures made { IfOk result (λ r. IsMade machine.old machine.new (ruling seat.old.view.journal) seat.old.number seq (Call.Task (TaskCall.Fork pid)) r.0) }
-    ensures heritage { IfOk result (λ r. (r.1.index ≡ index.new) × (r.1.creds ≡ creds.old)) }
+    ensures heritage { IfOk result (λ r. (r.1.index ≡ basis.new.index) × (r.1.creds ≡ basis.old.creds)) }
     ensures world { StandsOver seat.old.view.journal machine.new.trail machine.new.world }
-    ensures creds { creds.new ≡ creds_of machine.new.world seat.old.number }
+    ensures creds { basis.new.creds ≡ creds_of machine.new.world seat.old.number }
     ensures err { OnErr result (machine.new ≡ machine.old) }
-    ensures cost { seat.new.view.loads + index.old.rows ≤ seat.old.view.loads + rows_of seat.old.view.journal }
-    ensures once { OnOk result (seat.new.view.loads + index.old.rows ≤ seat.old.view.loads + index.new.rows) }
+    ensures cost { seat.new.view.loads + basis.old.index.rows ≤ seat.old.view.loads + rows_of seat.old.view.journal }
+    ensures once { OnOk result (seat.new.view.loads + basis.old.index.rows ≤ seat.old.view.loads + basis.new.index.rows) }
 {
-    read_up(alloc, table, seat, index)?;
-    let heritage = inherit(index, creds)?;
+    read_up(alloc, table, seat, &mut basis.index)?;
+    let heritage = basis.copy()?;
     let call = Call::Task(TaskCall::Fork { pid });
     match make_call(
         alloc,
-        &index.rules,
-        creds,
+        &basis.index.rules,
+        &mut basis.creds,
         machine,
         seat.number(),
         seq,
@@ -153,34 +129,24 @@ pub(crate) fn branch<R: Wait>(
     alloc: Global,
     table: &LiveTable<WorldMachine>,
     seat: &mut TaskSeat<WorldMachine>,
-    index: &mut Index,
-    creds: &mut Cred,
+    basis: &mut Basis,
     made: u32,
     pid: Pid,
 ) -> Result<(Turned, Option<Task>), AllocError>
     requires table { seat.old.table ≡ table.now }
-    requires task { IsTaskState seat.old index.old.rules index.old.rows creds.old }
+    requires task { IsTaskState seat.old basis.old.index.rules basis.old.index.rows basis.old.creds }
     requires few { made < 1048575 }
     ensures same { (seat.new.table ≡ seat.old.table) × (seat.new.number ≡ seat.old.number) }
-    ensures task { IsTaskState seat.new index.new.rules index.new.rows creds.new }
-    ensures branched { IfOk result (λ r. IsBranched (task_of seat.old index.old.rules made creds.old) (task_of seat.new index.new.rules made creds.new) pid r.0 r.1) }
-    ensures stays { OnErr result (Stays (task_of seat.old index.old.rules made creds.old) (task_of seat.new index.new.rules made creds.new)) }
+    ensures task { IsTaskState seat.new basis.new.index.rules basis.new.index.rows basis.new.creds }
+    ensures branched { IfOk result (λ r. IsBranched (task_of seat.old basis.old.index.rules made basis.old.creds) (task_of seat.new basis.new.index.rules made basis.new.creds) pid r.0 r.1) }
+    ensures stays { OnErr result (Stays (task_of seat.old basis.old.index.rules made basis.old.creds) (task_of seat.new basis.new.index.rules made basis.new.creds)) }
     ensures looks { seat.old.view.looks < seat.new.view.looks }
     ensures penless { seat.new.view.pens ≡ seat.old.view.pens }
-    ensures cost { seat.new.view.loads + index.old.rows ≤ seat.old.view.loads + rows_of seat.new.view.journal }
-    ensures once { OnOk result (seat.new.view.loads + index.old.rows ≤ seat.old.view.loads + index.new.rows) }
+    ensures cost { seat.new.view.loads + basis.old.index.rows ≤ seat.old.view.loads + rows_of seat.new.view.journal }
+    ensures once { OnOk result (seat.new.view.loads + basis.old.index.rows ≤ seat.old.view.loads + basis.new.index.rows) }
 {
     let mut machine = table.take_turn(rt, seat);
-    let forked = fork_in_turn(
-        alloc,
-        table,
-        seat,
-        index,
-        creds,
-        &mut machine,
-        made + 1,
-        pid,
-    );
+    let forked = fork_in_turn(alloc, table, seat, basis, &mut machine, made + 1, pid);
     match forked {
         Err(fault) => {
             table.give_turn(seat, machine);
@@ -192,14 +158,12 @@ pub(crate) fn branch<R: Wait>(
                 return Ok((turned, None));
             }
             let child = give_with_child(table, seat, machine);
-            let Heritage { index, creds } = heritage;
             Ok((
                 turned,
                 Some(Task {
                     seat: child,
-                    index,
+                    basis: heritage,
                     made: 0,
-                    creds,
                 }),
             ))
         }

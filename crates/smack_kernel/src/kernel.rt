@@ -2,6 +2,7 @@ ghost use Rattle.std.specs.Prelude.{◌≡◌, ◌<◌, ◌+◌, length, false, 
 ghost use Rattle.smack_kernel.specs.Tasks.{booted_task, most_calls, Stays, Hears, Adopts, Loads, LoadsOnce};
 ghost use Rattle.smack_kernel.specs.Answers.{ArePackedOps, IsAsked, is_fork_call, IsCalled, IsForked, IsOpsWritten, IsOwnWritten, IsWritten, TakesPen, IsMarked, IsSeqFull, IsWholeTask, Closes};
 
+use crate::basis::Basis;
 use crate::closed::Closed;
 use crate::forks::branch;
 use crate::index::{Index, look};
@@ -90,9 +91,11 @@ impl Kernel {
         let (table, seat) = LiveTable::new(alloc, WorldMachine::new(alloc)?)?;
         let task = Task {
             seat,
-            index,
+            basis: Basis {
+                index,
+                creds: Cred::first(alloc),
+            },
             made: 0,
-            creds: Cred::first(alloc),
         };
         Ok((Kernel { table, labels }, task))
     }
@@ -118,7 +121,7 @@ impl Kernel {
         ensures looks { task.old.looks < task.new.looks }
         ensures penless { task.new.pens ≡ task.old.pens }
     {
-        look(alloc, &self.table, &mut task.seat, &mut task.index)
+        look(alloc, &self.table, &mut task.seat, &mut task.basis.index)
     }
 
     /// Catches up, and judges a question by the ordered cases. It waits for nobody, and takes memory
@@ -144,11 +147,11 @@ impl Kernel {
         if task.made >= MOST_CALLS {
             return Ok(Asked::SeqFull);
         }
-        look(alloc, &self.table, &mut task.seat, &mut task.index)?;
+        look(alloc, &self.table, &mut task.seat, &mut task.basis.index)?;
         task.made += 1;
         Ok(Asked::Verdict {
-            version: task.index.rules.version(),
-            verdict: cases(&task.index.rules, s, o, m),
+            version: task.basis.index.rules.version(),
+            verdict: cases(&task.basis.index.rules, s, o, m),
         })
     }
 
@@ -181,8 +184,7 @@ impl Kernel {
             alloc,
             &self.table,
             &mut task.seat,
-            &mut task.index,
-            &mut task.creds,
+            &mut task.basis,
             task.made,
             call,
         ) {
@@ -224,8 +226,7 @@ impl Kernel {
             alloc,
             &self.table,
             &mut task.seat,
-            &mut task.index,
-            &mut task.creds,
+            &mut task.basis,
             task.made,
             pid,
         )?;
@@ -318,8 +319,8 @@ impl Kernel {
             alloc,
             &self.table,
             &mut task.seat,
-            &mut task.index,
-            &task.creds,
+            &mut task.basis.index,
+            &task.basis.creds,
             &batch,
         )?;
         task.made += 1;
@@ -408,12 +409,11 @@ impl Kernel {
     {
         let Task {
             seat,
-            index,
+            basis: Basis { index, creds: _ },
             made: _,
-            creds: _,
         } = child;
         self.table.adopt(&mut task.seat, seat);
-        task.index.keep_newer(index);
+        task.basis.index.keep_newer(index);
     }
 
     /// Ends the kernel: its labels, and all that was published and entered. The task is whole. On
@@ -424,12 +424,7 @@ impl Kernel {
         ensures closed { IfOk result (Closes self.labels task) }
         ensures back { IfErr result (λ e. (e.1 ≡ self) × (e.2 ≡ record task { loads = e.2.loads })) }
     {
-        let Task {
-            seat,
-            index,
-            made,
-            creds,
-        } = task;
+        let Task { seat, basis, made } = task;
         let Kernel { table, labels } = self;
         match table.close(alloc, seat) {
             Ok((journal, machine)) => Ok(Closed {
@@ -440,12 +435,7 @@ impl Kernel {
             Err((fault, table, seat)) => Err((
                 fault,
                 Kernel { table, labels },
-                Task {
-                    seat,
-                    index,
-                    made,
-                    creds,
-                },
+                Task { seat, basis, made },
             )),
         }
     }

@@ -20,6 +20,7 @@
 //! alone knows it), and on `smackfs`, `rule_fold` and `smack_decide` for texts, rules and decisions.
 #![tactic(auto)]
 
+mod basis;
 mod closed;
 mod forks;
 mod index;

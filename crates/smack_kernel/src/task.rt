@@ -1,20 +1,18 @@
 ghost use Rattle.std.specs.Prelude.{◌≡◌, ◌≤◌, length};
 ghost use Rattle.smack_kernel.specs.Tasks.{most_calls, IsSound};
 
-use crate::index::Index;
+use crate::basis::Basis;
 use crate::world_machine::WorldMachine;
 use live_table::{Notice as SeatNotice, TaskSeat};
 use std::marker::Model;
-use task_creds::Cred;
 
-/// A task of a kernel: what it has seen, the rules that it has taken, its credentials, and how many
-/// calls it made. A thread may take it along.
+/// A task of a kernel: what it has seen, the rules that it has taken with its credentials, and how
+/// many calls it made. A thread may take it along.
 #[derive(Drop)]
 pub struct Task {
     pub(crate) seat: TaskSeat<WorldMachine>,
-    pub(crate) index: Index,
+    pub(crate) basis: Basis,
     pub(crate) made: u32,
-    pub(crate) creds: Cred,
 }
 
 impl Model for Task {
@@ -23,9 +21,9 @@ impl Model for Task {
 
     ghost Value = { TaskValue };
 
-    ghost view = { λ t. task_of t.seat t.index.rules t.made t.creds };
+    ghost view = { λ t. task_of t.seat t.basis.index.rules t.made t.basis.creds };
 
-    ghost invariant = { λ t. IsTaskState t.seat t.index.rules t.index.rows t.creds × (t.made ≤ most_calls) };
+    ghost invariant = { λ t. IsTaskState t.seat t.basis.index.rules t.basis.index.rows t.basis.creds × (t.made ≤ most_calls) };
 }
 
 impl Task {
@@ -50,7 +48,7 @@ impl Task {
         ensures version { result ≡ self.now.version }
         ensures within { result ≤ length self.now.journal }
     {
-        self.index.rules.version()
+        self.basis.index.rules.version()
     }
 }
 

@@ -13,7 +13,8 @@ ghost use Rattle.smack_kernel.specs.Tasks.{IsTaskState, Stays, task_of};
 ghost use Rattle.smack_kernel.specs.Turns.{IsMade, IsTurned};
 ghost use Rattle.smack_kernel.specs.Answers.{is_fork_call};
 
-use crate::index::{Index, read_up};
+use crate::basis::Basis;
+use crate::index::read_up;
 use crate::world_machine::WorldMachine;
 use live_table::{LiveTable, TaskSeat};
 use rule_fold::RuleIndex;
@@ -103,36 +104,35 @@ fn call_in_turn(
     alloc: Global,
     table: &LiveTable<WorldMachine>,
     seat: &mut TaskSeat<WorldMachine>,
-    index: &mut Index,
-    creds: &mut Cred,
+    basis: &mut Basis,
     machine: &mut WorldMachine,
     seq: u32,
     call: Call,
 ) -> Result<Turned, (AllocError, Call)>
     requires table { seat.old.table ≡ table.now }
-    requires stands { StandsAt index.old.rules index.old.rows seat.old.view.journal }
+    requires stands { StandsAt basis.old.index.rules basis.old.index.rows seat.old.view.journal }
     requires world { StandsOver seat.old.view.journal machine.old.trail machine.old.world }
     requires alive { seat.old.number < length machine.old.world.tasks }
-    requires creds { creds.old ≡ creds_of machine.old.world seat.old.number }
+    requires creds { basis.old.creds ≡ creds_of machine.old.world seat.old.number }
     ensures same { seat.new ≡ with_loads seat.new.view.loads seat.old }
-    ensures stands { StandsAt index.new.rules index.new.rows seat.old.view.journal }
-    ensures later { index.old.rules.version ≤ index.new.rules.version }
-    ensures whole { OnOk result (index.new.rules.version ≡ length seat.old.view.journal) }
+    ensures stands { StandsAt basis.new.index.rules basis.new.index.rows seat.old.view.journal }
+    ensures later { basis.old.index.rules.version ≤ basis.new.index.rules.version }
+    ensures whole { OnOk result (basis.new.index.rules.version ≡ length seat.old.view.journal) }
     ensures made { IfOk result (IsMade machine.old machine.new (ruling seat.old.view.journal) seat.old.number seq call) }
     ensures world { StandsOver seat.old.view.journal machine.new.trail machine.new.world }
-    ensures creds { creds.new ≡ creds_of machine.new.world seat.old.number }
+    ensures creds { basis.new.creds ≡ creds_of machine.new.world seat.old.number }
     ensures back { IfErr result (λ e. e.1 ≡ call) }
     ensures err { OnErr result (machine.new ≡ machine.old) }
-    ensures cost { seat.new.view.loads + index.old.rows ≤ seat.old.view.loads + rows_of seat.old.view.journal }
-    ensures once { OnOk result (seat.new.view.loads + index.old.rows ≤ seat.old.view.loads + index.new.rows) }
+    ensures cost { seat.new.view.loads + basis.old.index.rows ≤ seat.old.view.loads + rows_of seat.old.view.journal }
+    ensures once { OnOk result (seat.new.view.loads + basis.old.index.rows ≤ seat.old.view.loads + basis.new.index.rows) }
 {
-    if let Err(fault) = read_up(alloc, table, seat, index) {
+    if let Err(fault) = read_up(alloc, table, seat, &mut basis.index) {
         return Err((fault, call));
     }
     make_call(
         alloc,
-        &index.rules,
-        creds,
+        &basis.index.rules,
+        &mut basis.creds,
         machine,
         seat.number(),
         seq,
@@ -147,36 +147,26 @@ pub(crate) fn enter<R: Wait>(
     alloc: Global,
     table: &LiveTable<WorldMachine>,
     seat: &mut TaskSeat<WorldMachine>,
-    index: &mut Index,
-    creds: &mut Cred,
+    basis: &mut Basis,
     made: u32,
     call: Call,
 ) -> Result<Turned, (AllocError, Call)>
     requires table { seat.old.table ≡ table.now }
-    requires task { IsTaskState seat.old index.old.rules index.old.rows creds.old }
+    requires task { IsTaskState seat.old basis.old.index.rules basis.old.index.rows basis.old.creds }
     requires few { made < 1048575 }
     requires plain { is_fork_call call ≡ false }
     ensures same { (seat.new.table ≡ seat.old.table) × (seat.new.number ≡ seat.old.number) }
-    ensures task { IsTaskState seat.new index.new.rules index.new.rows creds.new }
-    ensures turned { IfOk result (IsTurned (task_of seat.old index.old.rules made creds.old) (task_of seat.new index.new.rules made creds.new) call) }
+    ensures task { IsTaskState seat.new basis.new.index.rules basis.new.index.rows basis.new.creds }
+    ensures turned { IfOk result (IsTurned (task_of seat.old basis.old.index.rules made basis.old.creds) (task_of seat.new basis.new.index.rules made basis.new.creds) call) }
     ensures back { IfErr result (λ e. (e.1 ≡ call)
-        × Stays (task_of seat.old index.old.rules made creds.old) (task_of seat.new index.new.rules made creds.new)) }
+        × Stays (task_of seat.old basis.old.index.rules made basis.old.creds) (task_of seat.new basis.new.index.rules made basis.new.creds)) }
     ensures looks { seat.old.view.looks < seat.new.view.looks }
     ensures penless { seat.new.view.pens ≡ seat.old.view.pens }
-    ensures cost { seat.new.view.loads + index.old.rows ≤ seat.old.view.loads + rows_of seat.new.view.journal }
-    ensures once { OnOk result (seat.new.view.loads + index.old.rows ≤ seat.old.view.loads + index.new.rows) }
+    ensures cost { seat.new.view.loads + basis.old.index.rows ≤ seat.old.view.loads + rows_of seat.new.view.journal }
+    ensures once { OnOk result (seat.new.view.loads + basis.old.index.rows ≤ seat.old.view.loads + basis.new.index.rows) }
 {
     let mut machine = table.take_turn(rt, seat);
-    let turned = call_in_turn(
-        alloc,
-        table,
-        seat,
-        index,
-        creds,
-        &mut machine,
-        made + 1,
-        call,
-    );
+    let turned = call_in_turn(alloc, table, seat, basis, &mut machine, made + 1, call);
     table.give_turn(seat, machine);
     turned
 }

@@ -29,7 +29,7 @@ fork_in_turn-forked-requires-clause-alive g c =
     let t = c.take_turn-machine.ensures.turn in
     let s1 = c.take_turn-machine.new.seat in
     let x = c.take_turn-machine.result in
-    let live = subst (λ n. IsLive x.world n c.args.creds.now) (sym c.take_turn-machine.ensures.same.1)
+    let live = subst (λ n. IsLive x.world n c.args.basis.now.creds) (sym c.take_turn-machine.ensures.same.1)
     (turn_live c.requires.task s1.view x t) in
     live.0
 
@@ -38,7 +38,7 @@ fork_in_turn-forked-requires-clause-creds g c =
     let t = c.take_turn-machine.ensures.turn in
     let s1 = c.take_turn-machine.new.seat in
     let x = c.take_turn-machine.result in
-    let live = subst (λ n. IsLive x.world n c.args.creds.now) (sym c.take_turn-machine.ensures.same.1)
+    let live = subst (λ n. IsLive x.world n c.args.basis.now.creds) (sym c.take_turn-machine.ensures.same.1)
     (turn_live c.requires.task s1.view x t) in
     live.1
 
@@ -384,8 +384,8 @@ returns-else-not-makes_task-clause-branched g c =
     let number : s3.number ≡ s.number = g.1 ∙ (ap (λ (z : SeatValue Entry). z.number) s2_is ∙ same1.1) in
     let child_table : h.table ≡ s3.table = g.2 ∙ sym g.0 in
     let heritage = c.in-Ok.ensures.heritage in
-    let v = task_of s c.args.index.now.rules c.args.made c.args.creds.now in
-    let w = task_of s3 c.fork_in_turn-forked.new.index.rules c.args.made c.fork_in_turn-forked.new.creds in
+    let v = task_of s c.args.basis.now.index.rules c.args.made c.args.basis.now.creds in
+    let w = task_of s3 c.fork_in_turn-forked.new.basis.index.rules c.args.made c.fork_in_turn-forked.new.basis.creds in
     let is_turned = subst (λ q. IsTurned v w call q) (sym is_entry) (calls_forked c.requires.task x m' t c.args.made c.args.pid r made k is_child e.world f table number child_table creds e.stands e.later c.in-Ok.ensures.whole heritage.1) in
     let named = ap task_made is_entry ∙ child_named c.requires.task x m' t c.args.made c.args.pid r made k is_child e.world f table number child_table creds e.stands e.later c.in-Ok.ensures.whole heritage.1 in
     let starts = subst (λ (z : Index). Starts w (task_of h z.rules 0 c.in-Ok.heritage.creds) h.number) (sym heritage.0)

@@ -19,7 +19,7 @@ call_in_turn-turned-requires-clause-alive g c =
     let t = c.take_turn-machine.ensures.turn in
     let s1 = c.take_turn-machine.new.seat in
     let x = c.take_turn-machine.result in
-    let live = subst (λ n. IsLive x.world n c.args.creds.now) (sym c.take_turn-machine.ensures.same.1)
+    let live = subst (λ n. IsLive x.world n c.args.basis.now.creds) (sym c.take_turn-machine.ensures.same.1)
     (turn_live c.requires.task s1.view x t) in
     live.0
 
@@ -28,7 +28,7 @@ call_in_turn-turned-requires-clause-creds g c =
     let t = c.take_turn-machine.ensures.turn in
     let s1 = c.take_turn-machine.new.seat in
     let x = c.take_turn-machine.result in
-    let live = subst (λ n. IsLive x.world n c.args.creds.now) (sym c.take_turn-machine.ensures.same.1)
+    let live = subst (λ n. IsLive x.world n c.args.basis.now.creds) (sym c.take_turn-machine.ensures.same.1)
     (turn_live c.requires.task s1.view x t) in
     live.1
 

@@ -14,8 +14,8 @@ pub returns-in-TrailFull-clause-forked : goal.returns-in-TrailFull-clause-forked
 returns-in-TrailFull-clause-forked g c =
     let i = c.task.inside in
     let n = c.branch-rt.new in
-    let v = task_of i.seat i.index.rules i.made i.creds in
-    let w = task_of n.seat n.index.rules i.made n.creds in
+    let v = task_of i.seat i.basis.index.rules i.made i.basis.creds in
+    let w = task_of n.seat n.basis.index.rules i.made n.basis.creds in
     let child = c.in_ok-turned.child in
     let few : i.made < most_calls = (let below = c.if-task-ge-MOST_CALLS.false in omega arith) in
     subst (λ (z : TaskValue). IsForked z w c.args.pid (Called.TrailFull c.in-TrailFull.call) child) c.task.view_is
