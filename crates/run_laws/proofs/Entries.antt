@@ -13,6 +13,7 @@ use Rattle.runs_spec.specs.Runs.{own, numbers, asked_of, Distinct, WentOver}
 use Rattle.runs_spec.specs.Stops.{IsForkedTask, LacksCalls, IsOutOfCalls}
 use Rattle.runs_spec.proofs.Stops.{fits_length}
 use Rattle.run_laws.proofs.Lists.{has_stands}
+use Rattle.run_laws.proofs.Histories.{seen_as_one}
 use Rattle.run_laws.proofs.Sorting.{in_order}
 use Rattle.run_laws.proofs.Counts.{length_kinds}
 use Rattle.run_laws.proofs.Legal.{life, named, entry_task}
@@ -56,7 +57,7 @@ module _ (full : Bool) (s : Scripted) (left : List ScriptLine) (done : full ≡ 
     distinct = (
       (λ i.
           let b = T.of pid i in
-          let same = one_number full s w.journal h (in_order (asked_of g.run)) c.steps c.legal k b.0 (record { 0 = pid }) is b.2 in
+          let same = one_number full s w.journal h (in_order (asked_of g.run)) (seen_as_one c).steps (seen_as_one c).legal k b.0 (record { 0 = pid }) is b.2 in
           new (subst (λ n. Has n ks) (sym same) b.1)),
       T.distinct,
     );
@@ -84,7 +85,7 @@ module _ (full : Bool) (s : Scripted) (left : List ScriptLine) (done : full ≡ 
         entries_few L.calls,
         fits_length s k 1 L.calls (lines_by L.pid s.lines) L.rest L.fits,
       ))
-      (λ p is. pid_of_life full s w.journal h (in_order (asked_of g.run)) c.steps c.legal k (record { 0 = p }) L is)
+      (λ p is. pid_of_life full s w.journal h (in_order (asked_of g.run)) (seen_as_one c).steps (seen_as_one c).legal k (record { 0 = p }) L is)
       d.0 (tally ks d.1 (λ n i. within n (there i)))
 
   short_of : LacksCalls s (lines_by 0 s.lines) (booted_task t) w → (k : ℕ) × Has k all × IsShort k

@@ -35,6 +35,7 @@ use Rattle.runs_spec.specs.Scripts.{scripted, lines_by}
 use Rattle.runs_spec.specs.Deeds.{Deed, entered, batched, answered, FitsLine, FitsTo}
 use Rattle.runs_spec.specs.Runs.{asked_of, WentOver}
 use Rattle.run_laws.proofs.Lists.{stands_has, has_stands, has_those, those_has}
+use Rattle.run_laws.proofs.Histories.{seen_as_one}
 use Rattle.run_laws.proofs.Deeds.{lines_of, at_of}
 use Rattle.run_laws.proofs.Lives.{Life}
 use Rattle.run_laws.proofs.Sorting.{in_order}
@@ -89,7 +90,7 @@ module _ (lines : List ScriptLine) (good : AreGoodLines [] lines) (table : IsNam
   call_of : (k : ℕ) (pid : Pid) → IsNumberOf h k pid → (L : LifeOf k) → (l : ScriptLine) → Has l lines → l.task ≡ pid.0
       → DeedOfLine (scripted lines) k L.calls l
   call_of k pid is L l there_ own =
-      let same = pid_of_life true (scripted lines) w.journal h ls c.steps c.legal k pid L is in
+      let same = pid_of_life true (scripted lines) w.journal h ls (seen_as_one c).steps (seen_as_one c).legal k pid L is in
       deed_of_line (scripted lines) k 1 L.calls (lines_by L.pid lines) l
       (subst (FitsTo (scripted lines) k 1 L.calls (lines_by L.pid lines)) (L.done refl) L.fits) (lines_numbered L.pid lines good)
       (has_those (λ (x : ScriptLine). x.task) L.pid lines l (own ∙ sym same) there_)
@@ -153,7 +154,7 @@ module _ (lines : List ScriptLine) (good : AreGoodLines [] lines) (table : IsNam
         record {
           number = k.0;
           is = k.1;
-          one = λ i is. one_number true (scripted lines) w.journal h ls c.steps c.legal i k.0 pid is k.1;
+          one = λ i is. one_number true (scripted lines) w.journal h ls (seen_as_one c).steps (seen_as_one c).legal i k.0 pid is k.1;
           recorded = λ i l st own. recorded k.0 pid k.1 l (stands_has lines i l st) own;
           many = many k.0 pid k.1;
         };
@@ -161,7 +162,7 @@ module _ (lines : List ScriptLine) (good : AreGoodLines [] lines) (table : IsNam
     many : (k : ℕ) (pid : Pid) → IsNumberOf h k pid → call_count r k ≡ lines_of_task lines pid.0
     many k pid is =
         let L = life_of k pid is in
-        let same = pid_of_life true (scripted lines) w.journal h ls c.steps c.legal k pid L is in
+        let same = pid_of_life true (scripted lines) w.journal h ls (seen_as_one c).steps (seen_as_one c).legal k pid L is in
         let a = count_is (scripted lines) r k (record {
           calls = L.calls;
           ls = lines_by L.pid lines;

@@ -29,6 +29,7 @@ use Rattle.runs_spec.specs.Deeds.{entered}
 use Rattle.runs_spec.specs.Runs.{asked_of, WentOver}
 use Rattle.runs_spec.specs.Stops.{HasForkedNone}
 use Rattle.run_laws.proofs.Lists.{stands_has, has_stands}
+use Rattle.run_laws.proofs.Histories.{seen_as_one}
 use Rattle.run_laws.proofs.Deeds.{place_low_of}
 use Rattle.run_laws.proofs.Lives.{Life, entry_deed, seqs_rise}
 use Rattle.run_laws.proofs.Sorting.{in_order}
@@ -114,7 +115,7 @@ module _ (lines : List ScriptLine) (good : AreGoodLines [] lines) (table : IsNam
       (λ z. live_before e.task j world_first h n e (subst (λ k. is_live world_first.tasks k ≡ true) (sym z.0) refl) st (no_exit n e st))
       (λ b.
       let low = place_low_of L.place_low L.calls L.place_high e n L.places (entry_deed full (scripted lines) j h told e.task L n e st refl) in
-      live_behind e.task j world_first h b.1 n b.0 e (record { 0 = L.pid }) c.steps b.2 b.3 (let x = b.5 in omega arith) st (no_exit n e st)) L.born
+      live_behind e.task j world_first h b.1 n b.0 e (record { 0 = L.pid }) (seen_as_one c).steps b.2 b.3 (let x = b.5 in omega arith) st (no_exit n e st)) L.born
 
   -- a fork's pid, by its line
   fork_pid : (e : Entry) (p : ℕ) (a : Lined e p) (pid : Pid) → e.call ≡ Call.Task (TaskCall.Fork pid)
@@ -133,7 +134,7 @@ module _ (lines : List ScriptLine) (good : AreGoodLines [] lines) (table : IsNam
   is_new : (n : ℕ) (e : Entry) (pid : Pid) → Stands h n e → e.call ≡ Call.Task (TaskCall.Fork pid)
       → was_made (world_before j world_first h n).tasks pid ≡ false
   is_new n e pid st forks = ⊎_elim (λ made. absurd (⊎_elim (λ first. not_first (one_pid pid.0 0 first)) not_other
-      (made_by j world_first h n e pid.0 c.steps st (made_pid (world_before j world_first h n).tasks pid made)))) (λ new. new)
+      (made_by j world_first h n e pid.0 (seen_as_one c).steps st (made_pid (world_before j world_first h n).tasks pid made)))) (λ new. new)
       (cases_Bool (was_made (world_before j world_first h n).tasks pid))
     where
       not_first : pid.0 ≡ 0 → ⊥
@@ -150,7 +151,7 @@ module _ (lines : List ScriptLine) (good : AreGoodLines [] lines) (table : IsNam
           let same = one_fork_line (table_of lines) (task_names lines) lines pid table refl a.front a.line a.behind d.front d.line d.behind a.is d.is
           (a.call ∙ ap (λ (call : Call). Some call) forks) (d.call ∙ ap (λ (call : Call). Some call) b.is.0) in
           let pids : L.pid ≡ M.pid = sym a.own ∙ (ap (λ (l : ScriptLine). l.task) same.1 ∙ d.own) in
-          let tasks = one_number full (scripted lines) j h told c.steps c.legal e.task b.fork.task (record { 0 = L.pid }) (number_at e.task L)
+          let tasks = one_number full (scripted lines) j h told (seen_as_one c).steps (seen_as_one c).legal e.task b.fork.task (record { 0 = L.pid }) (number_at e.task L)
           (subst (λ p. IsNumberOf h b.fork.task (record { 0 = p })) (sym pids) (number_at b.fork.task M)) in
           let early = seqs_rise full (scripted lines) j h told e.task L b.place n b.fork e b.stands st (sym tasks) refl b.before in
           let count : length (lines_by L.pid a.front) ≡ length (lines_by M.pid d.front) = λ i. length (lines_by (pids i) (same.0 i)) in
@@ -184,6 +185,6 @@ module _ (lines : List ScriptLine) (good : AreGoodLines [] lines) (table : IsNam
       let version = version_of j f.fork.version in
       let child = fork_replies before version f.fork.task f.pid (live st.0 f.fork st.1) (is_new st.0 f.fork f.pid st.1 f.is)
       (has_room st.0 f.fork f.pid st.1 f.is) in
-      let replied = replied_at j world_first h st.0 f.fork c.steps st.1
+      let replied = replied_at j world_first h st.0 f.fork (seen_as_one c).steps st.1
       ∙ (ap (λ (call : Call). (step before version f.fork.task call).reply) f.is ∙ child) in
       absurd (let z : Some (length before.tasks) ≡ None = sym (ap child_of replied) ∙ f.none in cc)

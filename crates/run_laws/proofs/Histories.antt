@@ -1,5 +1,6 @@
 -- What a legal history says of its entries.
 use Rattle.std.proofs.Common.{◌≡◌, ℕ, zero, suc, ◌+◌, ◌<◌, ◌≤◌, List, [], ◌∷◌, sym, refl, ap, ◌∙◌, subst, arith, Some}
+use Rattle.rules_spec.specs.declared.Batch.{Batch}
 use Rattle.world_spec.specs.declared.Reply.{Reply}
 use Rattle.world_spec.specs.declared.Reply.TheVariants as Reply
 use Rattle.world_spec.specs.declared.Entry.{Entry}
@@ -7,8 +8,15 @@ use Rattle.std.specs.List.{slice_get}
 use Rattle.legal_spec.specs.Calls.{Stands}
 use Rattle.live_table.specs.Machines.{makes, made, Next, LegalFrom, last_from}
 use Rattle.world_spec.specs.Replies.{child_of}
-use Rattle.smack_kernel.specs.Histories.{world_means}
+use Rattle.smack_kernel.specs.Histories.{world_means, AreOneHistory}
+use Rattle.smack_kernel.specs.Tasks.{TaskValue}
+use Rattle.smack_kernel.specs.Answers.{ClosedValue, Closes}
 use Rattle.run_laws.proofs.Lists.{same_some}
+
+-- what a task has seen that closed its kernel is one history
+pub seen_as_one : {labels : List (List ℕ)} {w : TaskValue} {closed : ClosedValue} → Closes labels w closed
+    → AreOneHistory w.journal w.history
+seen_as_one c = subst (λ (z : List Batch × List Entry). AreOneHistory z.0 z.1) (λ i. (c.journal i, c.history i)) c.one
 
 -- a reply that names a child
 pub child_named : (r : Reply) (k : ℕ) → child_of r ≡ Some k → r ≡ Reply.Child k

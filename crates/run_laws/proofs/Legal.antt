@@ -49,7 +49,7 @@ use Rattle.run_laws.proofs.Deeds.{seq_of, fits_are, over_rises, ordered, rises_w
 use Rattle.run_laws.proofs.Lives.{Life, DeedOf, seqs_rise, line_seqs_rise, entry_deed, batch_deed, line_deed, later_place}
 use Rattle.run_laws.proofs.Family.{Part, own_of, lift, find, Waiter, Awaits_, waits_in, line_task}
 use Rattle.run_laws.proofs.Whole.{makes_own, all_numbers}
-use Rattle.run_laws.proofs.Histories.{child_above, one_child, same_stand, versions_rise, versions_within}
+use Rattle.run_laws.proofs.Histories.{seen_as_one, child_above, one_child, same_stand, versions_rise, versions_within}
 use Rattle.run_laws.proofs.Sorting.{in_order, order_keeps, order_has, tasks_rise}
 use Rattle.run_laws.proofs.Counts.{Counted, each_once}
 use Rattle.run_laws.proofs.Creds.{creds_are}
@@ -143,11 +143,11 @@ module _ (full : Bool) (s : Scripted) (left : List ScriptLine) (done : full ≡ 
 
   pub all : (k : ℕ) → k ≤ made world_means h → Has k (0 ∷ numbers g.run)
   all k le =
-      covers world_means h (0 ∷ numbers g.run) c.legal here
+      covers world_means h (0 ∷ numbers g.run) (seen_as_one c).legal here
       (λ e a n k' is. there (makes_own full s (lines_by 0 s.lines) left t w g e a e.task refl n k' is)) k le
 
   pub entry_task : (n : ℕ) (e : Entry) → Stands h n e → Has e.task (0 ∷ numbers g.run)
-  entry_task n e st = all e.task (let y = legal_below world_means 0 0 h e c.legal (stands_has h n e st) in omega arith)
+  entry_task n e st = all e.task (let y = legal_below world_means 0 0 h e (seen_as_one c).legal (stands_has h n e st) in omega arith)
 
   pub batch_task : (n : ℕ) (b : Batch) → Stands j n b → Has b.task (0 ∷ numbers g.run)
   batch_task n b st =
@@ -185,14 +185,14 @@ module _ (full : Bool) (s : Scripted) (left : List ScriptLine) (done : full ≡ 
   -- a fork that makes a task stands before its first place, in a version that its calls need
   pub fork_first : (n : ℕ) (e : Entry) (k : ℕ) → Stands h n e → e.reply ≡ Reply.Child k → (L : Life full s j h ls k) → n + 1 ≤ L.place_low
   fork_first n e k st is L =
-      ⊎_elim (λ z. absurd (let y = (child_above 0 0 n h e k c.legal st (ap child_of is)).0 in let x = z.0 in omega arith))
-      (λ b. let same = one_child 0 0 n b.1 h e b.0 k c.legal st b.2 (ap child_of is) (ap child_of b.3.1) in let x = b.5 in omega arith) L.born
+      ⊎_elim (λ z. absurd (let y = (child_above 0 0 n h e k (seen_as_one c).legal st (ap child_of is)).0 in let x = z.0 in omega arith))
+      (λ b. let same = one_child 0 0 n b.1 h e b.0 k (seen_as_one c).legal st b.2 (ap child_of is) (ap child_of b.3.1) in let x = b.5 in omega arith) L.born
 
   fork_low : (n : ℕ) (e : Entry) (k : ℕ) → Stands h n e → e.reply ≡ Reply.Child k → (L : Life full s j h ls k) → e.version ≤ L.low
   fork_low n e k st is L =
-      ⊎_elim (λ z. absurd (let y = (child_above 0 0 n h e k c.legal st (ap child_of is)).0 in let x = z.0 in omega arith))
+      ⊎_elim (λ z. absurd (let y = (child_above 0 0 n h e k (seen_as_one c).legal st (ap child_of is)).0 in let x = z.0 in omega arith))
       (λ b.
-      let place = one_child 0 0 n b.1 h e b.0 k c.legal st b.2 (ap child_of is) (ap child_of b.3.1) in
+      let place = one_child 0 0 n b.1 h e b.0 k (seen_as_one c).legal st b.2 (ap child_of is) (ap child_of b.3.1) in
       let same = same_stand h n b.1 e b.0 place st b.2 in
       subst (λ (x : Entry). x.version ≤ L.low) (sym same) b.4) L.born
 
@@ -200,7 +200,7 @@ module _ (full : Bool) (s : Scripted) (left : List ScriptLine) (done : full ≡ 
   pub numbers_in : (k : ℕ) (pid : Pid) → IsNumberOf h k pid → Has k (0 ∷ numbers g.run)
   numbers_in k pid is =
       ⊎_elim (λ z. subst (λ x. Has x (0 ∷ numbers g.run)) (sym z.0) here)
-      (λ b. all k (let y = (child_above 0 0 b.0 h b.1 k c.legal b.2 (ap child_of b.3.1)).1 in omega arith)) is
+      (λ b. all k (let y = (child_above 0 0 b.0 h b.1 k (seen_as_one c).legal b.2 (ap child_of b.3.1)).1 in omega arith)) is
 
   counted : (k : ℕ) → Counted s record_of k
   counted k = ⊎_elim (λ u. let L = life k u in record {
@@ -251,16 +251,16 @@ module _ (full : Bool) (s : Scripted) (left : List ScriptLine) (done : full ≡ 
   -- the object calls
   pub are_judged : AreJudged record_of
   are_judged = entries_are_judged record_of (record {
-    steps = c.steps;
-    rising = λ i k e f se sf lt. versions_rise 0 0 i k h e f c.legal se sf lt;
-    within = λ i e st. let x = versions_within 0 0 i h e c.legal st in let y = c.recent in omega arith;
+    steps = (seen_as_one c).steps;
+    rising = λ i k e f se sf lt. versions_rise 0 0 i k h e f (seen_as_one c).legal se sf lt;
+    within = λ i e st. let x = versions_within 0 0 i h e (seen_as_one c).legal st in let y = (seen_as_one c).recent in omega arith;
   })
 
   -- the credentials of a task before a call that saw the first m entries
   creds_seen : (k : ℕ) (L : Life full s j h ls k) (d : Deed) (m : ℕ) → Saw d m → Has d L.calls
       → cred_at j h k (seq_of d) ≡ creds_after j h k m
   creds_seen k L d m saw there_ =
-      creds_are j h k (seq_of d) m c.steps (λ n e st lt is. (order n e st is).0 lt) (λ n e st le is. (order n e st is).1 le)
+      creds_are j h k (seq_of d) m (seen_as_one c).steps (λ n e st lt is. (order n e st is).0 lt) (λ n e st le is. (order n e st is).1 le)
       (λ n e st le is.
       let x = fork_first n e k st is L in
       let y = saw_low L.place_low L.calls L.place_high d m saw L.places there_ in absurd (omega arith))

@@ -40,6 +40,7 @@ use Rattle.runs_spec.specs.Deeds.{Deed, entered, batched, answered}
 use Rattle.runs_spec.specs.Runs.{numbers, asked_of, WentOver}
 use Rattle.run_laws.specs.Laws.{RunsArePlain}
 use Rattle.run_laws.proofs.Lists.{stands_has, those_has}
+use Rattle.run_laws.proofs.Histories.{seen_as_one}
 use Rattle.run_laws.proofs.Lives.{Life, entry_deed, batch_deed, line_deed}
 use Rattle.run_laws.proofs.Sorting.{in_order}
 use Rattle.run_laws.proofs.Creds.{all_stand}
@@ -132,7 +133,7 @@ module _ (full : Bool) (lines : List ScriptLine) (good : AreGoodLines [] lines) 
   journal_is_plain = all_stand (IsPlainBatch table) j batch_plain
 
   pub history_is_plain : 0 < length table → AllByRecursion (IsPlainEntry table names) h
-  history_is_plain first = steps_are_plain table names first j world_first h (first_world_is_plain table first) c.steps call_plain
+  history_is_plain first = steps_are_plain table names first j world_first h (first_world_is_plain table first) (seen_as_one c).steps call_plain
 
   pub asked_is_plain : AllByRecursion (IsPlainAsked table names) ls
   asked_is_plain = all_stand (IsPlainAsked table names) ls asked_plain

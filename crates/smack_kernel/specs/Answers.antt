@@ -18,16 +18,13 @@ use Rattle.world_spec.specs.declared.Call.TheVariants as Call
 use Rattle.world_spec.specs.declared.tasks.TaskCall.TheVariants as TaskCall
 use Rattle.world_spec.specs.declared.Entry.{Entry}
 use Rattle.world_spec.specs.declared.Reply.TheVariants as Reply
-use Rattle.world_spec.specs.Worlds.{world_first}
 use Rattle.rule_word.specs.Layout.{IsPackable}
 use Rattle.live_table.specs.Lists.{Has}
 use Rattle.live_table.specs.Batches.{rows_of}
 use Rattle.live_table.specs.Core.{row_count}
-use Rattle.live_table.specs.Machines.{LegalFrom, last_version}
-use Rattle.world_spec.specs.Replays.{AreSteps}
 use Rattle.smack_world.specs.Stepping.{most_entries}
 use Rattle.world_spec.specs.Replies.{child_of}
-use Rattle.smack_kernel.specs.Histories.{world_means}
+use Rattle.smack_kernel.specs.Histories.{world_means, AreOneHistory}
 use Rattle.smack_kernel.specs.Growth.{Publishes, batch_of}
 use Rattle.smack_kernel.specs.Tasks.{TaskValue, Does, Stays, Answers, Calls, Starts, most_calls}
 use Rattle.smack_kernel.specs.declared.kernel.Asked.{Asked}
@@ -172,19 +169,17 @@ pub record IsWholeTask (v : TaskValue) : Type 0 where
   pub closed : (e : Entry) → Has e v.history → Has e.task (v.number ∷ v.ended) → (k : ℕ)
       → world_means.child e ≡ Some k → Has k (v.number ∷ v.ended)
 
--- what a closed kernel hands out: its labels, and the journal and history that were made
+-- what a closed kernel hands out: its labels, and the journal and history that were made, which are one history
 pub record ClosedValue : Type 0 where
   pub labels : List (List ℕ)
   pub journal : List Batch
   pub history : List Entry
 
--- The closed journal and history are those that the task has seen. Each entry is what its call came to; versions do not
--- fall and none exceeds the journal; each batch is of one of the task's numbers.
+-- The closed journal and history are those that the task has seen, and they are one history. Each batch is of one of the
+-- task's numbers.
 pub record Closes (labels : List (List ℕ)) (v : TaskValue) (c : ClosedValue) : Type 0 where
   pub labels_are : c.labels ≡ labels
   pub journal : c.journal ≡ v.journal
   pub history : c.history ≡ v.history
-  pub steps : AreSteps v.journal world_first v.history
-  pub legal : LegalFrom world_means 0 0 v.history
-  pub recent : last_version world_means v.history ≤ length v.journal
+  pub one : AreOneHistory c.journal c.history
   pub tasks : (b : Batch) → Has b v.journal → Has b.task (v.number ∷ v.ended)

@@ -1,11 +1,13 @@
 ghost use Rattle.std.specs.Prelude.{◌≡◌};
+ghost use Rattle.smack_kernel.specs.Histories.{AreOneHistory};
 
 use label_table::Labels;
 use rules_spec::Journal;
 use std::marker::Model;
 use world_spec::Trail;
 
-/// What a closed kernel hands out. Only `Kernel::close` makes it.
+/// What a closed kernel hands out. Only `Kernel::close` makes it. Its journal and its history are one
+/// history.
 #[derive(Drop)]
 pub struct Closed {
     pub(crate) labels: Labels,
@@ -14,11 +16,14 @@ pub struct Closed {
 }
 
 impl Model for Closed {
+    ghost use Rattle.smack_kernel.specs.Histories.{AreOneHistory};
     ghost use Rattle.smack_kernel.specs.Answers.{ClosedValue};
 
     ghost Value = { ClosedValue };
 
     ghost view = { λ c. record { labels = c.labels; journal = c.journal; history = c.history } };
+
+    ghost invariant = { λ c. AreOneHistory c.journal c.history };
 }
 
 impl Closed {
@@ -31,14 +36,16 @@ impl Closed {
 
     /// The batches that were published, the oldest first.
     pub fn journal(&self) -> &Journal
-        ensures { result.now ≡ self.now.journal }
+        ensures journal { result.now ≡ self.now.journal }
+        ensures one { AreOneHistory self.now.journal self.now.history }
     {
         &self.journal
     }
 
     /// The entries of the calls that were made, the oldest first.
     pub fn history(&self) -> &Trail
-        ensures { result.now ≡ self.now.history }
+        ensures history { result.now ≡ self.now.history }
+        ensures one { AreOneHistory self.now.journal self.now.history }
     {
         &self.history
     }
