@@ -6,7 +6,6 @@ use Rattle.rules_spec.specs.Rulings.{Ruling}
 use Rattle.tree_spec.specs.declared.attributes.Attr.{Attr}
 use Rattle.tree_spec.specs.declared.attributes.Attr.TheVariants.{Main, Exec, Mmap, Transmute, IpIn, IpOut}
 use Rattle.tree_spec.specs.declared.attributes.AttrValue.{AttrValue}
-use Rattle.tree_spec.specs.declared.attributes.AttrValue.TheVariants as AttrValue
 use Rattle.tree_spec.specs.declared.attributes.AttrFault.{AttrFault}
 use Rattle.tree_spec.specs.declared.attributes.AttrFault.TheVariants.{BadAttribute, BadValue, NotDirectory, NotRegular}
 use Rattle.tree_spec.specs.declared.nodes.Kind.{Kind}

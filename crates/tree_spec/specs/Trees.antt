@@ -18,9 +18,12 @@ Nodes = List (Option NodeRow)
 abbrev pub bare_label : LabelId → NodeLabels
 bare_label label = record { label = label; exec = None; map = None; transmute = false }
 
+abbrev pub root_row : LabelId → NodeRow
+root_row label = record { parent = None; name = []; kind = Dir; labels = bare_label label }
+
 -- the root alone, with this label; its number is 0
 abbrev pub root_alone : LabelId → Nodes
-root_alone label = Some (record { parent = None; name = []; kind = Dir; labels = bare_label label }) ∷ []
+root_alone label = Some (root_row label) ∷ []
 
 -- the node of a number, where it is not gone
 abbrev pub node_at : Nodes → ℕ → Option NodeRow
@@ -75,9 +78,13 @@ without_node nodes n = slice_set nodes n None
 abbrev pub changed_node : Nodes → ℕ → (NodeRow → NodeRow) → Nodes
 changed_node nodes n change = slice_set nodes n (option_map change (node_at nodes n))
 
--- a node at another place
+abbrev pub put_below : ℕ → List ℕ → NodeRow → Option ℕ → NodeRow
+put_below d name r None = r
+put_below d name r (Some from) = record r { parent = Some d; name = name }
+
+-- a node at another place; the root has no other
 abbrev pub moved : ℕ → List ℕ → NodeRow → NodeRow
-moved d name r = record r { parent = Some d; name = name }
+moved d name r = put_below d name r r.parent
 
 -- the node of a number comes to another place
 abbrev pub with_move : Nodes → ℕ → ℕ → List ℕ → Nodes
