@@ -15,7 +15,7 @@ use Rattle.script_run.specs.declared.stage.Stage.{Stage}
 use Rattle.script_run.specs.declared.making.Stop.{Stop}
 
 -- the script of a run: the labels of its kernel, the names of its tasks, and its calls as workers are told them
-abbrev pub stage_script : {S : Type 0} → (S → List ScriptLine) → Stage S → Scripted
+abbrev pub stage_script : {G S : Type 0} → (S → List ScriptLine) → Stage G S → Scripted
 stage_script told stage = record { labels = stage.kernel.now.labels; names = stage.names.now; lines = told stage.script.now }
 
 -- what came of a fork: an entry and the child that it made, and no row was loaded twice; or no child, with an entry or

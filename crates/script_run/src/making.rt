@@ -48,9 +48,8 @@ pub fn note(asked: &mut AskedBlocks, line: AskedLine) -> Option<Stop>
 }
 
 /// Asks a question.
-fn ask_line<S: ScriptLines>(
-    alloc: Global,
-    stage: Stage<'_, S>,
+fn ask_line<G, S: ScriptLines>(
+    stage: Stage<'_, G, S>,
     task: &mut Task,
     asked: &mut AskedBlocks,
     line: &Line<'_>,
@@ -65,7 +64,7 @@ fn ask_line<S: ScriptLines>(
     let (s, o, m) = question;
     let number = task.number();
     let seq = task.made() + 1;
-    match stage.kernel.ask(alloc, task, s, o, m) {
+    match stage.kernel.ask(stage.alloc, task, s, o, m) {
         Ok(Asked::Verdict { version, verdict }) => note(
             asked,
             AskedLine {
@@ -107,10 +106,9 @@ fn refuse(
 }
 
 /// Writes the text of a line.
-fn write_line<R: Wait, S: ScriptLines>(
+fn write_line<R: Wait, G, S: ScriptLines>(
     rt: &R,
-    alloc: Global,
-    stage: Stage<'_, S>,
+    stage: Stage<'_, G, S>,
     task: &mut Task,
     asked: &mut AskedBlocks,
     line: &Line<'_>,
@@ -124,11 +122,14 @@ fn write_line<R: Wait, S: ScriptLines>(
     let number = task.number();
     let seq = task.made() + 1;
     let file = words_of(line).one;
-    match stage.kernel.write(rt, alloc, task, file, line.text.bytes) {
+    match stage
+        .kernel
+        .write(rt, stage.alloc, task, file, line.text.bytes)
+    {
         Ok(Written::Batch { version: _ }) => None,
         Ok(Written::Entry(_)) => None,
         Ok(Written::Refused { version, fault }) => {
-            refuse(alloc, asked, line, (number, seq, version), fault)
+            refuse(stage.alloc, asked, line, (number, seq, version), fault)
         }
         Ok(Written::TrailFull) => Some(Stop::TrailFull),
         Ok(Written::SeqFull) => Some(Stop::SeqFull),
@@ -137,10 +138,9 @@ fn write_line<R: Wait, S: ScriptLines>(
 }
 
 /// Makes an object call that is no fork.
-fn make_line<R: Wait, S: ScriptLines>(
+fn make_line<R: Wait, G, S: ScriptLines>(
     rt: &R,
-    alloc: Global,
-    stage: Stage<'_, S>,
+    stage: Stage<'_, G, S>,
     task: &mut Task,
     asked: &mut AskedBlocks,
     line: &Line<'_>,
@@ -152,7 +152,7 @@ fn make_line<R: Wait, S: ScriptLines>(
     ensures ran { (ls : List ScriptLine) → Ran (is_some result) (stage_script S.told stage.entry) (call_seen line.now ∷ ls) ls task.old task.new asked.old asked.new }
     ensures cause { (ls : List ScriptLine) → IfSome result (IsCause (stage_script S.told stage.entry) (call_seen line.now ∷ ls) task.old task.new) }
 {
-    match stage.kernel.call(rt, alloc, task, call) {
+    match stage.kernel.call(rt, stage.alloc, task, call) {
         Ok(Called::Entry(_)) => None,
         Ok(Called::TrailFull(_)) => Some(Stop::TrailFull),
         Ok(Called::SeqFull(_)) => Some(Stop::SeqFull),
@@ -161,10 +161,9 @@ fn make_line<R: Wait, S: ScriptLines>(
 }
 
 /// Runs a line that neither makes a task nor waits for one.
-pub fn plain_line<R: Wait, S: ScriptLines>(
+pub fn plain_line<R: Wait, G, S: ScriptLines>(
     rt: &R,
-    alloc: Global,
-    stage: Stage<'_, S>,
+    stage: Stage<'_, G, S>,
     task: &mut Task,
     asked: &mut AskedBlocks,
     line: &Line<'_>,
@@ -178,9 +177,9 @@ pub fn plain_line<R: Wait, S: ScriptLines>(
     ensures cause { (ls : List ScriptLine) → IfSome result (IsCause (stage_script S.told stage.entry) (call_seen line.now ∷ ls) task.old task.new) }
 {
     match act {
-        Act::Write => write_line(rt, alloc, stage, task, asked, line),
-        Act::Ask { s, o, m } => ask_line(alloc, stage, task, asked, line, (s, o, m)),
-        Act::Make(call) => make_line(rt, alloc, stage, task, asked, line, call),
+        Act::Write => write_line(rt, stage, task, asked, line),
+        Act::Ask { s, o, m } => ask_line(stage, task, asked, line, (s, o, m)),
+        Act::Make(call) => make_line(rt, stage, task, asked, line, call),
         Act::Wait(_) => Some(Stop::Unscripted),
         Act::Fork(_) => Some(Stop::Unscripted),
     }

@@ -77,21 +77,31 @@ impl<'a> ScriptLines for PlacedLines<'a> {
     }
 }
 
-/// What all workers of a run share: the kernel, and of the script the names of the tasks by pid and
-/// the calls.
-pub struct Stage<'a, S> {
+/// What all workers of a run share: where memory is found, the gate, the kernel, and of the script the
+/// names of the tasks by pid and the calls.
+pub struct Stage<'a, G, S> {
+    pub alloc: Global,
+    pub gate: &'a G,
     pub kernel: &'a Kernel,
     pub names: &'a [Bytes],
     pub script: &'a S,
 }
 
-impl<'a, S> Clone for Stage<'a, S> {
-    fn clone(&self) -> Result<Stage<'a, S>, AllocError> {
+impl<'a, G, S> Clone for Stage<'a, G, S> {
+    fn clone(&self) -> Result<Stage<'a, G, S>, AllocError> {
         Ok(*self)
     }
 }
 
-impl<'a, S> Copy for Stage<'a, S> {}
+impl<'a, G, S> Copy for Stage<'a, G, S> {}
+
+/// The lines of a script task from one place of the script on, up to another.
+#[derive(Clone, Copy)]
+pub struct Span {
+    pub pid: u16,
+    pub from: usize,
+    pub to: usize,
+}
 
 /// How many calls a script has.
 pub fn count<S: ScriptLines>(script: &S) -> usize
@@ -118,8 +128,8 @@ pub fn next_line<S: ScriptLines>(
 
 /// The place of the line between two places of the script by which a script task waits for a child;
 /// the second place where none does.
-pub fn wait_place<S: ScriptLines>(
-    stage: Stage<'_, S>,
+pub fn wait_place<G, S: ScriptLines>(
+    stage: Stage<'_, G, S>,
     pid: u16,
     child: Pid,
     from: usize,

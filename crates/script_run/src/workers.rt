@@ -14,7 +14,7 @@ ghost use Rattle.script_run.specs.Stages.{stage_script, IsForkRun, IsWaitRun};
 ghost use Rattle.script_run.specs.Stops.{IsCause, IsForkCause, IsOwnStop, IsMeetCause, without_child};
 
 use crate::making::{Stop, note, plain_line};
-use crate::stage::{PlacedLines, ScriptLines, Stage, count, next_line, wait_place};
+use crate::stage::{PlacedLines, ScriptLines, Span, Stage, count, next_line, wait_place};
 use asked_lines::{AskedBlocks, AskedLine, AskedWhat};
 use outside::Gate;
 use script_calls::{Act, act_of, names_of};
@@ -119,8 +119,8 @@ fn wait_line(kernel: &Kernel, task: &mut Task, asked: &mut AskedBlocks, child: P
 
 /// Both halves of a fork have ended: the task adopts the child and, where a line at `until` waits for
 /// it, this line is run.
-fn meet<S: ScriptLines>(
-    stage: Stage<'_, S>,
+fn meet<G, S: ScriptLines>(
+    stage: Stage<'_, G, S>,
     mine: Worked,
     theirs: Worked,
     child: Pid,
@@ -158,10 +158,9 @@ fn meet<S: ScriptLines>(
 }
 
 /// Runs a line that neither makes a task nor waits for one.
-fn plain_step<R: Wait, S: ScriptLines>(
+fn plain_step<R: Wait, G, S: ScriptLines>(
     rt: &R,
-    alloc: Global,
-    stage: Stage<'_, S>,
+    stage: Stage<'_, G, S>,
     mut task: Task,
     mut asked: AskedBlocks,
     line: &Line<'_>,
@@ -177,95 +176,71 @@ fn plain_step<R: Wait, S: ScriptLines>(
     ensures at { result.at ≡ at }
     ensures orderly { (ls : List ScriptLine) → IsOrderly (stage_script S.told stage.entry) (call_seen line.now ∷ ls) → IsOrderly (stage_script S.told stage.entry) ls }
 {
-    let stop = plain_line(rt, alloc, stage, &mut task, &mut asked, line, act);
+    let stop = plain_line(rt, stage, &mut task, &mut asked, line, act);
     Reached {
         worked: Worked { task, asked, stop },
         at,
     }
 }
 
-/// The same as `go`, on the parts of a stage: what is joined captures these, and not the stage.
-#[cycle(work)]
-fn go_by_parts<R: Threads + Wait + Sync, G: Gate + Sync, S: ScriptLines + Sync>(
-    rt: &R,
-    alloc: Global,
-    gate: &G,
-    kernel: &Kernel,
-    names: &[Bytes],
-    script: &S,
-    task: Task,
-    asked: AskedBlocks,
-    pid: u16,
-    from: usize,
-    to: usize,
-) -> Worked
-    requires table { task.table ≡ kernel.now.table }
-    requires top { task.version ≤ length task.journal }
-    requires place { (from ≤ to) × (to ≤ length (S.told script.now)) }
-    requires names { length names.now ≤ most_script_tasks }
-    requires forks { ForksFirst (script_in kernel.now.labels names.now (S.told script.now)) }
-    ensures ran { Ran (is_some result.stop) (script_in kernel.now.labels names.now (S.told script.now)) (segment pid from to (S.told script.now)) [] task result.task asked result.asked }
-    ensures cause { IfSome result.stop (IsCause (script_in kernel.now.labels names.now (S.told script.now)) (segment pid from to (S.told script.now)) task result.task) }
-{
-    let stage = Stage {
-        kernel,
-        names,
-        script,
-    };
-    go(rt, alloc, gate, stage, task, asked, pid, from, to)
-}
-
-/// The rest of a task's own lines up to a place, and all lines of its child, side by side.
+/// The rest of a task's own lines up to a place, and the lines of its child, side by side. What is
+/// joined captures the parts of the stage, and not the stage.
 #[cycle(work)]
 fn halves<R: Threads + Wait + Sync, G: Gate + Sync, S: ScriptLines + Sync>(
     rt: &R,
-    alloc: Global,
-    gate: &G,
-    stage: Stage<'_, S>,
+    stage: Stage<'_, G, S>,
     task: Task,
     asked: AskedBlocks,
     kid: Task,
-    pid: u16,
     child: u16,
-    at: usize,
-    until: usize,
+    span: Span,
 ) -> (Worked, Worked)
     requires tables { (task.table ≡ stage.kernel.now.table) × (kid.table ≡ stage.kernel.now.table) }
     requires top { (task.version ≤ length task.journal) × (kid.version ≤ length kid.journal) }
-    requires place { (at ≤ until) × (until ≤ length (S.told stage.script.now)) }
+    requires place { (span.from ≤ span.to) × (span.to ≤ length (S.told stage.script.now)) }
     requires names { length stage.names.now ≤ most_script_tasks }
     requires forks { ForksFirst (stage_script S.told stage) }
-    ensures mine { Ran (is_some result.0.stop) (stage_script S.told stage.entry) (segment pid at until (S.told stage.entry.script.now)) [] task result.0.task asked result.0.asked }
-    ensures theirs { Ran (is_some result.1.stop) (stage_script S.told stage.entry) (segment child at (length (S.told stage.entry.script.now)) (S.told stage.entry.script.now)) [] kid result.1.task [] result.1.asked }
-    ensures my_cause { IfSome result.0.stop (IsCause (stage_script S.told stage.entry) (segment pid at until (S.told stage.entry.script.now)) task result.0.task) }
-    ensures their_cause { IfSome result.1.stop (IsCause (stage_script S.told stage.entry) (segment child at (length (S.told stage.entry.script.now)) (S.told stage.entry.script.now)) kid result.1.task) }
+    ensures mine { Ran (is_some result.0.stop) (stage_script S.told stage.entry) (segment span.pid span.from span.to (S.told stage.entry.script.now)) [] task result.0.task asked result.0.asked }
+    ensures theirs { Ran (is_some result.1.stop) (stage_script S.told stage.entry) (segment child span.from (length (S.told stage.entry.script.now)) (S.told stage.entry.script.now)) [] kid result.1.task [] result.1.asked }
+    ensures my_cause { IfSome result.0.stop (IsCause (stage_script S.told stage.entry) (segment span.pid span.from span.to (S.told stage.entry.script.now)) task result.0.task) }
+    ensures their_cause { IfSome result.1.stop (IsCause (stage_script S.told stage.entry) (segment child span.from (length (S.told stage.entry.script.now)) (S.told stage.entry.script.now)) kid result.1.task) }
 {
-    let Stage {
-        kernel,
-        names,
-        script,
-    } = stage;
+    let (alloc, gate) = (stage.alloc, stage.gate);
+    let (kernel, names, script) = (stage.kernel, stage.names, stage.script);
     join(
         rt,
         || -> Worked
-            requires { (task.table ≡ kernel.now.table) × (task.version ≤ length task.journal) × (at ≤ until) × (until ≤ length (S.told script.now)) × (length names.now ≤ most_script_tasks) × ForksFirst (script_in kernel.now.labels names.now (S.told script.now)) }
-            ensures ran { Ran (is_some result.stop) (script_in kernel.entry.now.labels names.entry.now (S.told script.entry.now)) (segment pid at until (S.told script.entry.now)) [] task result.task asked result.asked }
-            ensures cause { IfSome result.stop (IsCause (script_in kernel.entry.now.labels names.entry.now (S.told script.entry.now)) (segment pid at until (S.told script.entry.now)) task result.task) }
+            requires { (task.table ≡ kernel.now.table) × (task.version ≤ length task.journal) × (span.from ≤ span.to) × (span.to ≤ length (S.told script.now)) × (length names.now ≤ most_script_tasks) × ForksFirst (script_in kernel.now.labels names.now (S.told script.now)) }
+            ensures ran { Ran (is_some result.stop) (script_in kernel.entry.now.labels names.entry.now (S.told script.entry.now)) (segment span.pid span.from span.to (S.told script.entry.now)) [] task result.task asked result.asked }
+            ensures cause { IfSome result.stop (IsCause (script_in kernel.entry.now.labels names.entry.now (S.told script.entry.now)) (segment span.pid span.from span.to (S.told script.entry.now)) task result.task) }
         {
-            go_by_parts(
-                rt, alloc, gate, kernel, names, script, task, asked, pid, at, until,
-            )
+            let stage = Stage {
+                alloc,
+                gate,
+                kernel,
+                names,
+                script,
+            };
+            go(rt, stage, task, asked, span)
         },
         || -> Worked
-            requires { (kid.table ≡ kernel.now.table) × (kid.version ≤ length kid.journal) × (at ≤ length (S.told script.now)) × (length names.now ≤ most_script_tasks) × ForksFirst (script_in kernel.now.labels names.now (S.told script.now)) }
-            ensures ran { Ran (is_some result.stop) (script_in kernel.entry.now.labels names.entry.now (S.told script.entry.now)) (segment child at (length (S.told script.entry.now)) (S.told script.entry.now)) [] kid result.task [] result.asked }
-            ensures cause { IfSome result.stop (IsCause (script_in kernel.entry.now.labels names.entry.now (S.told script.entry.now)) (segment child at (length (S.told script.entry.now)) (S.told script.entry.now)) kid result.task) }
+            requires { (kid.table ≡ kernel.now.table) × (kid.version ≤ length kid.journal) × (span.from ≤ length (S.told script.now)) × (length names.now ≤ most_script_tasks) × ForksFirst (script_in kernel.now.labels names.now (S.told script.now)) }
+            ensures ran { Ran (is_some result.stop) (script_in kernel.entry.now.labels names.entry.now (S.told script.entry.now)) (segment child span.from (length (S.told script.entry.now)) (S.told script.entry.now)) [] kid result.task [] result.asked }
+            ensures cause { IfSome result.stop (IsCause (script_in kernel.entry.now.labels names.entry.now (S.told script.entry.now)) (segment child span.from (length (S.told script.entry.now)) (S.told script.entry.now)) kid result.task) }
         {
-            let asked = AskedBlocks::new(alloc);
-            let end = count(script);
-            go_by_parts(
-                rt, alloc, gate, kernel, names, script, kid, asked, child, at, end,
-            )
+            let stage = Stage {
+                alloc,
+                gate,
+                kernel,
+                names,
+                script,
+            };
+            let theirs = Span {
+                pid: child,
+                from: span.from,
+                to: count(script),
+            };
+            go(rt, stage, kid, AskedBlocks::new(alloc), theirs)
         },
     )
 }
@@ -275,80 +250,73 @@ fn halves<R: Threads + Wait + Sync, G: Gate + Sync, S: ScriptLines + Sync>(
 #[cycle(work)]
 fn fork_line<R: Threads + Wait + Sync, G: Gate + Sync, S: ScriptLines + Sync>(
     rt: &R,
-    alloc: Global,
-    gate: &G,
-    stage: Stage<'_, S>,
+    stage: Stage<'_, G, S>,
     mut task: Task,
     asked: AskedBlocks,
-    pid: u16,
     line: &Line<'_>,
     child: Pid,
-    at: usize,
-    to: usize,
+    span: Span,
 ) -> Reached
     requires table { task.table ≡ stage.kernel.now.table }
     requires top { task.version ≤ length task.journal }
-    requires place { (at ≤ to) × (to ≤ length (S.told stage.script.now)) }
+    requires place { (span.from ≤ span.to) × (span.to ≤ length (S.told stage.script.now)) }
     requires names { length stage.names.now ≤ most_script_tasks }
     requires forks { ForksFirst (stage_script S.told stage) }
-    requires first { lines_by child.0 (take at (S.told stage.script.now)) ≡ [] }
+    requires first { lines_by child.0 (take span.from (S.told stage.script.now)) ≡ [] }
     requires line { ForksTask (stage_script S.told stage) (call_seen line.now) child.0 }
-    ensures ran { Ran (is_some result.worked.stop) (stage_script S.told stage.entry) (call_seen line.now ∷ segment pid at to (S.told stage.entry.script.now)) (segment pid result.at to (S.told stage.entry.script.now)) task result.worked.task asked result.worked.asked }
-    ensures place { is_some result.worked.stop ≡ false → (at ≤ result.at) × (result.at ≤ to) }
-    ensures orderly { is_some result.worked.stop ≡ false → IsOrderly (stage_script S.told stage.entry) (call_seen line.now ∷ segment pid at to (S.told stage.entry.script.now)) → IsOrderly (stage_script S.told stage.entry) (segment pid result.at to (S.told stage.entry.script.now)) }
-    ensures cause { IfSome result.worked.stop (IsCause (stage_script S.told stage.entry) (call_seen line.now ∷ segment pid at to (S.told stage.entry.script.now)) task result.worked.task) }
+    ensures ran { Ran (is_some result.worked.stop) (stage_script S.told stage.entry) (call_seen line.now ∷ segment span.pid span.from span.to (S.told stage.entry.script.now)) (segment span.pid result.at span.to (S.told stage.entry.script.now)) task result.worked.task asked result.worked.asked }
+    ensures place { is_some result.worked.stop ≡ false → (span.from ≤ result.at) × (result.at ≤ span.to) }
+    ensures orderly { is_some result.worked.stop ≡ false → IsOrderly (stage_script S.told stage.entry) (call_seen line.now ∷ segment span.pid span.from span.to (S.told stage.entry.script.now)) → IsOrderly (stage_script S.told stage.entry) (segment span.pid result.at span.to (S.told stage.entry.script.now)) }
+    ensures cause { IfSome result.worked.stop (IsCause (stage_script S.told stage.entry) (call_seen line.now ∷ segment span.pid span.from span.to (S.told stage.entry.script.now)) task result.worked.task) }
 {
-    match fork(rt, alloc, stage.kernel, &mut task, child) {
+    match fork(rt, stage.alloc, stage.kernel, &mut task, child) {
         Err(stop) => Reached {
             worked: Worked {
                 task,
                 asked,
                 stop: Some(stop),
             },
-            at,
+            at: span.from,
         },
         Ok(kid) => {
-            let until = wait_place(stage, pid, child, at, to);
-            let (mine, theirs) = halves(
-                rt, alloc, gate, stage, task, asked, kid, pid, child.0, at, until,
-            );
-            meet(stage, mine, theirs, child, until, to)
+            let until = wait_place(stage, span.pid, child, span.from, span.to);
+            let own = Span {
+                pid: span.pid,
+                from: span.from,
+                to: until,
+            };
+            let (mine, theirs) = halves(rt, stage, task, asked, kid, child.0, own);
+            meet(stage, mine, theirs, child, until, span.to)
         }
     }
 }
 
-/// Runs one line.
+/// Runs one line: `span` are the lines behind it.
 #[cycle(work)]
 fn step<R: Threads + Wait + Sync, G: Gate + Sync, S: ScriptLines + Sync>(
     rt: &R,
-    alloc: Global,
-    gate: &G,
-    stage: Stage<'_, S>,
+    stage: Stage<'_, G, S>,
     task: Task,
     asked: AskedBlocks,
-    pid: u16,
     line: &Line<'_>,
-    at: usize,
-    to: usize,
+    span: Span,
 ) -> Reached
     requires table { task.table ≡ stage.kernel.now.table }
     requires top { task.version ≤ length task.journal }
-    requires place { (at ≤ to) × (to ≤ length (S.told stage.script.now)) }
+    requires place { (span.from ≤ span.to) × (span.to ≤ length (S.told stage.script.now)) }
     requires names { length stage.names.now ≤ most_script_tasks }
     requires forks { ForksFirst (stage_script S.told stage) }
-    requires here { (n : ℕ) × Stands (S.told stage.script.now) n (call_seen line.now) × (at ≡ n + 1) }
-    ensures ran { Ran (is_some result.worked.stop) (stage_script S.told stage.entry) (call_seen line.now ∷ segment pid at to (S.told stage.entry.script.now)) (segment pid result.at to (S.told stage.entry.script.now)) task result.worked.task asked result.worked.asked }
-    ensures place { is_some result.worked.stop ≡ false → (at ≤ result.at) × (result.at ≤ to) }
-    ensures orderly { is_some result.worked.stop ≡ false → IsOrderly (stage_script S.told stage.entry) (call_seen line.now ∷ segment pid at to (S.told stage.entry.script.now)) → IsOrderly (stage_script S.told stage.entry) (segment pid result.at to (S.told stage.entry.script.now)) }
-    ensures cause { IfSome result.worked.stop (IsCause (stage_script S.told stage.entry) (call_seen line.now ∷ segment pid at to (S.told stage.entry.script.now)) task result.worked.task) }
+    requires here { (n : ℕ) × Stands (S.told stage.script.now) n (call_seen line.now) × (span.from ≡ n + 1) }
+    ensures ran { Ran (is_some result.worked.stop) (stage_script S.told stage.entry) (call_seen line.now ∷ segment span.pid span.from span.to (S.told stage.entry.script.now)) (segment span.pid result.at span.to (S.told stage.entry.script.now)) task result.worked.task asked result.worked.asked }
+    ensures place { is_some result.worked.stop ≡ false → (span.from ≤ result.at) × (result.at ≤ span.to) }
+    ensures orderly { is_some result.worked.stop ≡ false → IsOrderly (stage_script S.told stage.entry) (call_seen line.now ∷ segment span.pid span.from span.to (S.told stage.entry.script.now)) → IsOrderly (stage_script S.told stage.entry) (segment span.pid result.at span.to (S.told stage.entry.script.now)) }
+    ensures cause { IfSome result.worked.stop (IsCause (stage_script S.told stage.entry) (call_seen line.now ∷ segment span.pid span.from span.to (S.told stage.entry.script.now)) task result.worked.task) }
 {
-    let stop = match act_of(alloc, stage.kernel.labels(), stage.names, line) {
+    let stop = match act_of(stage.alloc, stage.kernel.labels(), stage.names, line) {
         Ok(Some(Act::Fork(child))) => {
-            return fork_line(
-                rt, alloc, gate, stage, task, asked, pid, line, child, at, to,
-            );
+            return fork_line(rt, stage, task, asked, line, child, span);
         }
-        Ok(Some(act)) => return plain_step(rt, alloc, stage, task, asked, line, act, at),
+        Ok(Some(act)) => return plain_step(rt, stage, task, asked, line, act, span.from),
         Ok(None) => Stop::Unscripted,
         Err(_) => Stop::Memory,
     };
@@ -358,14 +326,14 @@ fn step<R: Threads + Wait + Sync, G: Gate + Sync, S: ScriptLines + Sync>(
             asked,
             stop: Some(stop),
         },
-        at,
+        at: span.from,
     }
 }
 
 /// Tells the gate of the line at a place, if one stands there.
-fn announce<G: Gate, S: ScriptLines>(gate: &G, stage: Stage<'_, S>, pid: u16, at: usize) {
+fn announce<G: Gate, S: ScriptLines>(stage: Stage<'_, G, S>, pid: u16, at: usize) {
     if let Some(line) = stage.script.calls().get(at) {
-        gate.before(u32::from(pid), line.seq);
+        stage.gate.before(u32::from(pid), line.seq);
     }
 }
 
@@ -374,31 +342,30 @@ fn announce<G: Gate, S: ScriptLines>(gate: &G, stage: Stage<'_, S>, pid: u16, at
 #[cycle(work)]
 fn go<R: Threads + Wait + Sync, G: Gate + Sync, S: ScriptLines + Sync>(
     rt: &R,
-    alloc: Global,
-    gate: &G,
-    stage: Stage<'_, S>,
+    stage: Stage<'_, G, S>,
     task: Task,
     asked: AskedBlocks,
-    pid: u16,
-    from: usize,
-    to: usize,
+    span: Span,
 ) -> Worked
     requires table { task.table ≡ stage.kernel.now.table }
     requires top { task.version ≤ length task.journal }
-    requires place { (from ≤ to) × (to ≤ length (S.told stage.script.now)) }
+    requires place { (span.from ≤ span.to) × (span.to ≤ length (S.told stage.script.now)) }
     requires names { length stage.names.now ≤ most_script_tasks }
     requires forks { ForksFirst (stage_script S.told stage) }
-    ensures ran { Ran (is_some result.stop) (stage_script S.told stage.entry) (segment pid from to (S.told stage.entry.script.now)) [] task result.task asked result.asked }
-    ensures cause { IfSome result.stop (IsCause (stage_script S.told stage.entry) (segment pid from to (S.told stage.entry.script.now)) task result.task) }
+    ensures ran { Ran (is_some result.stop) (stage_script S.told stage.entry) (segment span.pid span.from span.to (S.told stage.entry.script.now)) [] task result.task asked result.asked }
+    ensures cause { IfSome result.stop (IsCause (stage_script S.told stage.entry) (segment span.pid span.from span.to (S.told stage.entry.script.now)) task result.task) }
 {
     let mut task = task;
     let mut asked = asked;
-    let mut at = from;
-    while let Some((line, after)) = next_line(stage.script, pid, at, to) {
-        gate.before(u32::from(pid), line.seq);
-        let Reached { worked, at: place } = step(
-            rt, alloc, gate, stage, task, asked, pid, &line, after, to,
-        );
+    let mut at = span.from;
+    while let Some((line, after)) = next_line(stage.script, span.pid, at, span.to) {
+        stage.gate.before(u32::from(span.pid), line.seq);
+        let behind = Span {
+            pid: span.pid,
+            from: after,
+            to: span.to,
+        };
+        let Reached { worked, at: place } = step(rt, stage, task, asked, &line, behind);
         if worked.stop.is_some() {
             return worked;
         }
@@ -411,7 +378,7 @@ fn go<R: Threads + Wait + Sync, G: Gate + Sync, S: ScriptLines + Sync>(
         asked = more;
         at = place;
     }
-    announce(gate, stage, pid, to);
+    announce(stage, span.pid, span.to);
     Worked {
         task,
         asked,
@@ -455,10 +422,16 @@ pub fn work<R: Threads + Wait + Sync, G: Gate + Sync>(
         };
     };
     let stage = Stage {
+        alloc,
+        gate,
         kernel,
         names: names.items(),
         script: &placed,
     };
-    let end = count(&placed);
-    go(rt, alloc, gate, stage, task, asked, pid.0, 0, end)
+    let span = Span {
+        pid: pid.0,
+        from: 0,
+        to: count(&placed),
+    };
+    go(rt, stage, task, asked, span)
 }

@@ -14,7 +14,7 @@ use Rattle.script_run.proofs.workers.+work.Goals as goal
 
 pub fork_line-returns-in-Err-clause-ran : goal.fork_line-returns-in-Err-clause-ran
 fork_line-returns-in-Err-clause-ran g t c =
-    let ls = segment c.args.pid c.args.at c.args.to (g.S.ScriptLines.told c.args.stage.script.now) in
+    let ls = segment c.args.span.pid c.args.span.from c.args.span.to (g.S.ScriptLines.told c.args.stage.script.now) in
     unforked (stage_script g.S.ScriptLines.told c.args.stage) (call_seen c.args.line.now) ls ls c.args.task c.fork.new.task c.args.asked c.args.asked c.args.child
     c.requires.line (subst (IsForkRun c.args.task c.fork.new.task c.args.child) c.in-Err.is c.fork.ensures.forked)
 
@@ -24,7 +24,7 @@ fork_line-returns-in-Ok-clause-ran g t c =
     let h = c.halves-mine.result in
     let p = c.wait_place-until.ensures.place in
     let q = c.requires.place in
-    fork_lines (stage_script g.S.ScriptLines.told c.args.stage) c.args.pid c.args.child c.args.at c.wait_place-until.result c.args.to (length (g.S.ScriptLines.told c.args.stage.script.now))
+    fork_lines (stage_script g.S.ScriptLines.told c.args.stage) c.args.span.pid c.args.child c.args.span.from c.wait_place-until.result c.args.span.to (length (g.S.ScriptLines.told c.args.stage.script.now))
     c.meet.result.at (call_seen c.args.line.now) c.args.task c.fork.new.task h.0.task c.in-Ok.kid h.1.task c.meet.result.worked.task f.0
     c.args.asked h.0.asked h.1.asked c.meet.result.worked.asked (is_some h.0.stop) (is_some h.1.stop) (is_some c.meet.result.worked.stop)
     p.0 p.1 (omega arith) refl c.requires.first c.requires.line f.1 f.2 f.3 f.4 c.halves-mine.ensures.mine c.halves-mine.ensures.theirs
@@ -35,14 +35,14 @@ go-loop-line-init g t c = record {
   place = (omega arith, c.requires.place.0);
   table = c.requires.table;
   top = c.requires.top;
-  ran = ran_none (stage_script g.S.ScriptLines.told c.args.stage) (segment c.args.pid c.args.from c.args.to (g.S.ScriptLines.told c.args.stage.script.now)) c.args.task
+  ran = ran_none (stage_script g.S.ScriptLines.told c.args.stage) (segment c.args.span.pid c.args.span.from c.args.span.to (g.S.ScriptLines.told c.args.stage.script.now)) c.args.task
       c.args.asked c.requires.top;
   orderly = λ is. is;
 }
 
 pub go-returns-then-is_some-clause-ran : goal.go-returns-then-is_some-clause-ran
 go-returns-then-is_some-clause-ran g t c = let r = c.step-worked.result in
-    go_stops (stage_script g.S.ScriptLines.told c.args.stage) (segment c.args.pid c.args.from c.args.to (g.S.ScriptLines.told c.args.stage.script.now)) c.args.task
+    go_stops (stage_script g.S.ScriptLines.told c.args.stage) (segment c.args.span.pid c.args.span.from c.args.span.to (g.S.ScriptLines.told c.args.stage.script.now)) c.args.task
     c.loop-line.task r.worked.task c.args.asked c.loop-line.asked r.worked.asked _ _ _ (is_some r.worked.stop) c.loop-line.invariant.ran
     c.in-Some.ensures.line c.step-worked.ensures.ran (sym c.is_some.ensures ∙ c.if-is_some.true) []
 
@@ -57,7 +57,7 @@ go-loop-line-preserved g t c =
       place = (omega arith, omega arith);
       table = line.went.table ∙ i.table;
       top = line.went.within;
-      ran = go_on (stage_script g.S.ScriptLines.told c.args.stage) (segment c.args.pid c.args.from c.args.to (g.S.ScriptLines.told c.args.stage.script.now)) c.args.task
+      ran = go_on (stage_script g.S.ScriptLines.told c.args.stage) (segment c.args.span.pid c.args.span.from c.args.span.to (g.S.ScriptLines.told c.args.stage.script.now)) c.args.task
           c.loop-line.task r.worked.task c.args.asked c.loop-line.asked r.worked.asked _ _ _ (is_some r.worked.stop) i.ran
           c.in-Some.ensures.line line e;
       orderly = λ is. c.step-worked.ensures.orderly e (subst (IsOrderly (stage_script g.S.ScriptLines.told c.args.stage)) c.in-Some.ensures.line (i.orderly is));
@@ -65,7 +65,7 @@ go-loop-line-preserved g t c =
 
 pub step-returns-clause-ran : goal.step-returns-clause-ran
 step-returns-clause-ran g t c =
-    let ls = segment c.args.pid c.args.at c.args.to (g.S.ScriptLines.told c.args.stage.script.now) in
+    let ls = segment c.args.span.pid c.args.span.from c.args.span.to (g.S.ScriptLines.told c.args.stage.script.now) in
     ran_unchanged (stage_script g.S.ScriptLines.told c.args.stage) (call_seen c.args.line.now ∷ ls) ls c.args.task c.args.task c.args.asked c.args.asked
     c.requires.top refl
 
@@ -75,7 +75,7 @@ fork_line-returns-in-Ok-clause-cause g t c =
     let h = c.halves-mine.result in
     let p = c.wait_place-until.ensures.place in
     let q = c.requires.place in
-    fork_lines_cause (stage_script g.S.ScriptLines.told c.args.stage) c.args.pid c.args.child c.args.at c.wait_place-until.result c.args.to
+    fork_lines_cause (stage_script g.S.ScriptLines.told c.args.stage) c.args.span.pid c.args.child c.args.span.from c.wait_place-until.result c.args.span.to
     (length (g.S.ScriptLines.told c.args.stage.script.now)) (call_seen c.args.line.now) c.args.task c.fork.new.task h.0.task c.in-Ok.kid h.1.task
     c.meet.result.worked.task f.0 c.args.asked h.0.asked h.1.asked (is_some h.0.stop) (is_some h.1.stop) h.0.stop h.1.stop p.0 p.1 (omega arith) refl
     c.requires.first f.1 f.2 f.3 c.halves-mine.ensures.mine c.halves-mine.ensures.theirs c.halves-mine.ensures.my_cause
@@ -83,24 +83,24 @@ fork_line-returns-in-Ok-clause-cause g t c =
 
 pub go-returns-then-is_some-clause-cause : goal.go-returns-then-is_some-clause-cause
 go-returns-then-is_some-clause-cause g t c = let r = c.step-worked.result in
-    cause_then (stage_script g.S.ScriptLines.told c.args.stage) (segment c.args.pid c.args.from c.args.to (g.S.ScriptLines.told c.args.stage.script.now))
+    cause_then (stage_script g.S.ScriptLines.told c.args.stage) (segment c.args.span.pid c.args.span.from c.args.span.to (g.S.ScriptLines.told c.args.stage.script.now))
     _ _ c.args.task c.loop-line.task r.worked.task c.args.asked c.loop-line.asked r.worked.stop c.loop-line.invariant.ran
     c.in-Some.ensures.line c.loop-line.invariant.orderly c.step-worked.ensures.cause
 
 pub fork_line-returns-in-Err-clause-cause : goal.fork_line-returns-in-Err-clause-cause
 fork_line-returns-in-Err-clause-cause g t c =
     (subst (IsForkCause c.args.task c.fork.new.task) c.in-Err.is c.fork.ensures.cause) (stage_script g.S.ScriptLines.told c.args.stage)
-    (call_seen c.args.line.now) (segment c.args.pid c.args.at c.args.to (g.S.ScriptLines.told c.args.stage.script.now))
+    (call_seen c.args.line.now) (segment c.args.span.pid c.args.span.from c.args.span.to (g.S.ScriptLines.told c.args.stage.script.now))
 
 pub step-returns-in-Ok-Some-clause-cause : goal.step-returns-in-Ok-Some-clause-cause
 step-returns-in-Ok-Some-clause-cause g t c =
-    c.plain_step.ensures.cause (segment c.args.pid c.args.at c.args.to (g.S.ScriptLines.told c.args.stage.script.now))
+    c.plain_step.ensures.cause (segment c.args.span.pid c.args.span.from c.args.span.to (g.S.ScriptLines.told c.args.stage.script.now))
 
 pub fork_line-returns-in-Ok-clause-orderly : goal.fork_line-returns-in-Ok-clause-orderly
 fork_line-returns-in-Ok-clause-orderly g t c = λ on is.
     let p = c.wait_place-until.ensures.place in
     let q = c.requires.place in
-    fork_on (stage_script g.S.ScriptLines.told c.args.stage) c.args.pid c.args.child c.args.at c.wait_place-until.result c.args.to
+    fork_on (stage_script g.S.ScriptLines.told c.args.stage) c.args.span.pid c.args.child c.args.span.from c.wait_place-until.result c.args.span.to
     (call_seen c.args.line.now) p.0 p.1 q.1 c.requires.line c.wait_place-until.ensures.none is c.meet.result.at c.meet.ensures.met.wait
     (is_some c.meet.result.worked.stop) c.wait_place-until.ensures.line c.meet.ensures.met.at_end on
 
@@ -108,8 +108,8 @@ pub step-returns-in-Ok-Some-clause-orderly : goal.step-returns-in-Ok-Some-clause
 step-returns-in-Ok-Some-clause-orderly g t c = λ on is.
     let s = stage_script g.S.ScriptLines.told c.args.stage in
     let lines = g.S.ScriptLines.told c.args.stage.script.now in
-    subst (λ n. IsOrderly s (segment c.args.pid n c.args.to lines)) (sym c.plain_step.ensures.at)
-    (c.plain_step.ensures.orderly (segment c.args.pid c.args.at c.args.to lines) is)
+    subst (λ n. IsOrderly s (segment c.args.span.pid n c.args.span.to lines)) (sym c.plain_step.ensures.at)
+    (c.plain_step.ensures.orderly (segment c.args.span.pid c.args.span.from c.args.span.to lines) is)
 
 pub step-fork_line-requires-clause-first : goal.step-fork_line-requires-clause-first
 step-fork_line-requires-clause-first g t c κs within =

@@ -24,13 +24,13 @@ go-requires-clause-forks g c = λ _ _. subst ForksFirst
 pub returns-clause-ran : goal.returns-clause-ran
 returns-clause-ran g c = let ran = rw c.new-asked.ensures at c.go.ensures.ran in work_lines c.args.script.now
     (record { labels = c.args.kernel.now.labels; names = c.items.result.now; lines = c.in-Ok-new.placed }) c.args.pid.0
-    c.count-end.result (is_some c.go.result.stop) c.args.task c.go.result.task c.go.result.asked
+    c.count.result (is_some c.go.result.stop) c.args.task c.go.result.task c.go.result.asked
     (staged c.args.script.now c.in-Ok-new.placed c.args.kernel.now.labels c.items.result.now c.requires.labels (c.items.ensures ∙ (c.in-Ok.ensures ∙ c.tasks.ensures.names))
-    (c.in-Ok-new.ensures ∙ c.lines.ensures.calls)) c.count-end.ensures ran
+    (c.in-Ok-new.ensures ∙ c.lines.ensures.calls)) c.count.ensures ran
 
 pub returns-clause-cause : goal.returns-clause-cause
 returns-clause-cause g c = work_cause c.args.script.now
     (record { labels = c.args.kernel.now.labels; names = c.items.result.now; lines = c.in-Ok-new.placed }) c.args.pid.0
-    c.count-end.result c.go.result.stop c.args.task c.go.result.task
+    c.count.result c.go.result.stop c.args.task c.go.result.task
     (staged c.args.script.now c.in-Ok-new.placed c.args.kernel.now.labels c.items.result.now c.requires.labels (c.items.ensures ∙ (c.in-Ok.ensures ∙ c.tasks.ensures.names))
-    (c.in-Ok-new.ensures ∙ c.lines.ensures.calls)) c.count-end.ensures c.go.ensures.cause
+    (c.in-Ok-new.ensures ∙ c.lines.ensures.calls)) c.count.ensures c.go.ensures.cause
