@@ -4,9 +4,11 @@ use Rattle.std.specs.Prelude.{codes}
 use Rattle.std.specs.Option.{option_map, option_or}
 use Rattle.std.specs.Str.{bytes_eq}
 use Rattle.std.proofs.lemmas.Bool.{cases_Bool}
+use Rattle.std.proofs.lemmas.Slice.Eq.{bytes_eq-Decides}
 use Rattle.std.proofs.lemmas.List.{append-nil}
 use Rattle.std.proofs.Math.Seq.{take-suc}
 use Rattle.std.proofs.Math.ListN.{get_or-map}
+use Rattle.live_table.specs.Lists.{Has, here, there}
 use Rattle.live_table.proofs.Lists.{long_map}
 use Rattle.script_spec.specs.declared.CallVerb.{CallVerb}
 use Rattle.script_spec.specs.declared.Verb.{Verb}
@@ -22,7 +24,7 @@ use Rattle.runs_spec.specs.Scripts.{lines_by, segment}
 use Rattle.runs_spec.specs.Orders.{NoneWaits}
 use Rattle.runs_spec.proofs.Segments.{cut}
 use Rattle.runs_spec.proofs.Orders.{none_both}
-use Rattle.script_run.specs.Waits.{is_wait, waits_from, AreOutside, AreNoWaits}
+use Rattle.script_run.specs.Waits.{is_wait, waits_from, AreOutside, AreNoWaits, WaitStands}
 
 -- one more line
 one_first : (at : ℕ) (l : ScriptLine) (ls : List ScriptLine) (b : Bool) → is_wait l ≡ b
@@ -83,6 +85,28 @@ module _ (from to least : ℕ) (ps : List ℕ) (n d : ℕ) (low : n < length ps)
   pub left : (new : ℕ) → new ≡ least → (get_or ps n d < from) ⊎ (least ≤ get_or ps n d) → AreOutside from new (take (n + 1) ps)
   left new is where_it_is = one_more new (omega (arith, is))
       (⊎_elim (λ (a : get_or ps n d < from). inl a) (λ (b : least ≤ get_or ps n d). inr (omega (arith, is, b))) where_it_is)
+
+-- each place of a list is among its members
+pub has_at : (ps : List ℕ) (n d : ℕ) → n < length ps → Has (get_or ps n d) ps
+has_at [] n d low = absurd (omega (arith, low))
+has_at (p ∷ ps) zero d low = here
+has_at (p ∷ ps) (suc n) d low = there (has_at ps n d (omega (arith, low)))
+
+-- a line that waits stands at each place of waits
+wait_step : (at p : ℕ) (l : ScriptLine) (ls : List ScriptLine)
+    → (Has p (waits_from (at + 1) ls) → (k : ℕ) × (p ≡ at + 1 + k) × WaitStands ls k) → (b : Bool) → is_wait l ≡ b
+    → Has p (if b then at ∷ waits_from (at + 1) ls else waits_from (at + 1) ls) → (k : ℕ) × (p ≡ at + k) × WaitStands (l ∷ ls) k
+wait_step at p l ls behind true is here = (0, omega arith, (l, refl, ap verb_of ((bytes_eq-Decides (word_in 0 l) (codes "wait")).0 is)))
+wait_step at p l ls behind true is (there h) = let x = behind h in (suc x.0, (let y = x.1 in omega arith), x.2)
+wait_step at p l ls behind false is h = let x = behind h in (suc x.0, (let y = x.1 in omega arith), x.2)
+
+wait_behind : (at p : ℕ) (ls : List ScriptLine) → Has p (waits_from at ls) → (k : ℕ) × (p ≡ at + k) × WaitStands ls k
+wait_behind at p [] h = elim h [ ]
+wait_behind at p (l ∷ ls) h = wait_step at p l ls (wait_behind (at + 1) p ls) (is_wait l) refl h
+
+pub wait_stands : (p : ℕ) (ls : List ScriptLine) → Has p (waits_from 0 ls) → WaitStands ls p
+wait_stands p ls h = let x = wait_behind 0 p ls h in
+    subst (WaitStands ls) (sym (let y = x.1 in let z : p ≡ x.0 = omega arith in z)) x.2
 
 -- the lines between two places, where none of the places of waits is between them
 verb_no_wait : (name : List ℕ) → bytes_eq name (codes "wait") ≡ false → verb_of name ≡ Some Verb.Wait → ⊥

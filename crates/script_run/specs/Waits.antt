@@ -3,6 +3,7 @@ use Rattle.std.specs.List.{AllByRecursion}
 use Rattle.std.specs.Str.{bytes_eq}
 use Rattle.script_spec.specs.declared.Verb.TheVariants as Verb
 use Rattle.script_spec.specs.Lines.{ScriptLine, word_in, verb_in}
+use Rattle.legal_spec.specs.Calls.{Stands}
 
 -- the verb of a line is that of waiting for a task
 abbrev pub is_wait : ScriptLine → Bool
@@ -20,3 +21,7 @@ AreOutside from to places = AllByRecursion (λ p. (p < from) ⊎ (to ≤ p)) pla
 -- none of these lines waits for a task
 abbrev pub AreNoWaits : List ScriptLine → Type 0
 AreNoWaits lines = AllByRecursion (λ l. verb_in l ≡ Some Verb.Wait → ⊥) lines
+
+-- a line that waits for a task stands at a place
+abbrev pub WaitStands : List ScriptLine → ℕ → Type 0
+WaitStands lines at = (l : ScriptLine) × Stands lines at l × (verb_in l ≡ Some Verb.Wait)

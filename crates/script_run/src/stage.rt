@@ -6,7 +6,7 @@ ghost use Rattle.legal_spec.specs.Calls.{Stands};
 ghost use Rattle.runs_spec.specs.Scripts.{segment};
 ghost use Rattle.runs_spec.specs.Orders.{NoneWaits};
 ghost use Rattle.script_acts.specs.Places.{IsWaitAt};
-ghost use Rattle.script_run.specs.Waits.{AreNoWaits};
+ghost use Rattle.script_run.specs.Waits.{AreNoWaits, WaitStands};
 
 use crate::waits::{least_between, wait_places};
 use script_acts::{line_between, wait_between};
@@ -31,6 +31,7 @@ pub trait ScriptLines {
     fn next_wait(&self, from: usize, to: usize) -> usize
         requires { from ≤ to }
         ensures place { (from ≤ result) × (result ≤ to) }
+        ensures wait { result < to → WaitStands (told self.now) result }
         ensures none { AreNoWaits (drop from (take result (told self.now))) };
 }
 

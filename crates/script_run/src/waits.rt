@@ -1,5 +1,6 @@
-ghost use Rattle.std.specs.Prelude.{◌≡◌, ◌≤◌, ◌++◌, [], ◌∷◌, map, IfOk, OnOk};
+ghost use Rattle.std.specs.Prelude.{◌≡◌, ◌≤◌, ◌<◌, ◌++◌, [], ◌∷◌, map, IfOk, OnOk};
 ghost use Rattle.script_text.specs.Lines.{call_seen};
+ghost use Rattle.live_table.specs.Lists.{Has};
 ghost use Rattle.script_run.specs.Waits.{waits_from, AreOutside};
 
 use script_text::Line;
@@ -27,10 +28,11 @@ pub fn wait_places(alloc: Global, lines: &[Line<'_>]) -> Result<Vec<usize>, Allo
     Ok(places)
 }
 
-/// The least of some places between two of them; the second where none is.
+/// The least of some places from one place on, below another; the other where none is.
 pub fn least_between(places: &[usize], from: usize, to: usize) -> usize
     requires { from ≤ to }
     ensures place { (from ≤ result) × (result ≤ to) }
+    ensures found { result < to → Has result places.now }
     ensures none { AreOutside from result places.now }
 {
     let mut least = to;
