@@ -1,6 +1,7 @@
 pub mod Signals
 pub mod Worlds
 pub mod Questions
+pub mod Walks
 pub mod TaskCalls
 pub mod TreeCalls
 pub mod Replies

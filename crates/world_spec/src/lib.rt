@@ -14,6 +14,7 @@ ghost use Rattle.world_spec.specs.Replies.{answered, child_of};
 
 mod tasks;
 mod trees;
+mod walks;
 
 use rules_spec::Checks;
 use smack_base::{Bytes, Duplicate, LabelId, Modes, Sequence};
@@ -21,6 +22,7 @@ use std::alloc::AllocError;
 pub use tasks::{TaskCall, TaskVerb, TraceWay};
 pub use tree_spec::{ListedNames, Listing};
 pub use trees::{TreeCall, TreeVerb};
+pub use walks::Walker;
 
 /// A file of the root directory.
 #[derive(Drop)]
