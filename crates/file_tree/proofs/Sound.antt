@@ -18,7 +18,7 @@ use Rattle.file_tree.proofs.Indexed.{of_index, from_stands, child_is, index_firs
 use Rattle.file_tree.proofs.Children.{children_are, few_children}
 
 pub first_sound : (label : LabelId) → IsTree (root_alone label) ([] ∷ []) 1
-first_sound label = record { indexed = index_first (root_row label) refl; counted = refl; few = omega arith }
+first_sound label = record { indexed = index_first (root_row label) refl; counted = refl; rooted = omega arith; few = omega arith }
 
 pub live_is : (nodes : Nodes) (below : Below) (live : ℕ) → IsTree nodes below live → live ≡ live_nodes nodes
 live_is nodes below live t = t.counted
@@ -93,6 +93,7 @@ pub unplaced_sound : (nodes nodes' : Nodes) (below : Below) (live live' n : ℕ)
 unplaced_sound nodes nodes' below live live' n t within unplaced less gone = subst (λ ns. IsTree ns below live') (sym gone) record {
   indexed = stays nodes below n None t.indexed within unplaced;
   counted = let count = live_set nodes n None within in omega (arith, t.counted, less, count);
+  rooted = let same = length-set nodes n None in omega (arith, t.rooted, same);
   few = let same = length-set nodes n None in omega (arith, t.few, same);
 }
 
@@ -122,6 +123,7 @@ less_sound nodes nodes' below below' live live' n d r t within here there long w
       let count = live_set nodes n None within in
       let same : live_nodes nodes' ≡ live_nodes (slice_set nodes n None) = ap live_nodes gone in
       omega (arith, t.counted, less, count, one, same);
+  rooted = let same : length nodes' ≡ length nodes = ap (λ ns. length ns) gone ∙ length-set nodes n None in omega (arith, t.rooted, same);
   few = let same : length nodes' ≡ length nodes = ap (λ ns. length ns) gone ∙ length-set nodes n None in omega (arith, t.few, same);
 }
 
@@ -140,6 +142,7 @@ pub moved_sound : (nodes nodes' : Nodes) (below below' : Below) (live n d e : �
 moved_sound nodes nodes' below below' live n d e r s t within here there free put_there long wrote is = record {
   indexed = index_moved nodes nodes' below below' n d e r s t.indexed within here there free put_there long wrote is;
   counted = changed nodes nodes' live n r s t.counted within here is;
+  rooted = let same : length nodes' ≡ length nodes = ap (λ ns. length ns) is ∙ length-set nodes n (Some s) in omega (arith, t.rooted, same);
   few = let same : length nodes' ≡ length nodes = ap (λ ns. length ns) is ∙ length-set nodes n (Some s) in omega (arith, t.few, same);
 }
 
@@ -148,6 +151,7 @@ pub labels_sound : (nodes nodes' : Nodes) (below : Below) (live n : ℕ) (r : No
 labels_sound nodes nodes' below live n r labels t within here is = record {
   indexed = subst (λ ns. IsIndexed ns below) (sym is) (stays nodes below n (Some (relabelled labels r)) t.indexed within (λ d name. sym (ap (stands_as d name) here)));
   counted = changed nodes nodes' live n r (relabelled labels r) t.counted within here is;
+  rooted = let same : length nodes' ≡ length nodes = ap (λ ns. length ns) is ∙ length-set nodes n (Some (relabelled labels r)) in omega (arith, t.rooted, same);
   few = let same : length nodes' ≡ length nodes = ap (λ ns. length ns) is ∙ length-set nodes n (Some (relabelled labels r)) in omega (arith, t.few, same);
 }
 
@@ -158,6 +162,7 @@ pub more_sound : (nodes nodes' : Nodes) (below below' : Below) (live live' d n :
 more_sound nodes nodes' below below' live live' d n name r t short free there number named long wrote more grown = record {
   indexed = index_more nodes nodes' below below' d n name r t.indexed free there number named long wrote grown;
   counted = more ∙ ap (λ k. k + 1) t.counted ∙ sym (ap live_nodes grown ∙ live_push nodes r);
+  rooted = let longer : length nodes' ≡ length nodes + 1 = ap (λ ns. length ns) grown ∙ length_push nodes (Some r) in omega (arith, t.rooted, longer);
   few = let longer : length nodes' ≡ length nodes + 1 = ap (λ ns. length ns) grown ∙ length_push nodes (Some r) in omega (arith, short, longer);
 }
 
@@ -167,3 +172,6 @@ placed_within nodes n d there = elim (cases_lt n (length nodes)) [
   | inl within ↦ within
   | inr beyond ↦ absurd (no_some d (sym (ap parent_of (get_or_past nodes n None beyond)) ∙ there))
 ]
+
+pub root_within : (nodes : Nodes) (below : Below) (live : ℕ) → IsTree nodes below live → 0 < length nodes
+root_within nodes below live t = t.rooted

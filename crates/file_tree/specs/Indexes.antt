@@ -25,8 +25,10 @@ pub record IsIndexed (nodes : Nodes) (below : Below) : Type 0 where
   pub stands : (d : ℕ) (name : List ℕ) (n : ℕ) → found below d name ≡ Some n → stands_as d name (node_at nodes n) ≡ true
   pub finds : (d : ℕ) (name : List ℕ) (n : ℕ) → stands_as d name (node_at nodes n) ≡ true → found below d name ≡ Some n
 
--- the nodes with the index of their names and the count of those that are not gone, fewer nodes than there are numbers
+-- the nodes, of which the root is one, with the index of their names and the count of those that are not gone; there are
+-- no more of them than numbers
 pub record IsTree (nodes : Nodes) (below : Below) (live : ℕ) : Type 0 where
   pub indexed : IsIndexed nodes below
   pub counted : live ≡ live_nodes nodes
+  pub rooted : 0 < length nodes
   pub few : length nodes < 2 ^ 32

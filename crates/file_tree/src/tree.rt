@@ -64,6 +64,17 @@ impl Tree {
         })
     }
 
+    /// The number of the root.
+    #[tactic(auto, using(crate::proofs::Sound::root_within))]
+    pub fn root(&self) -> u32
+        ensures root { result ≡ 0 }
+        ensures within { result < length self.now }
+    {
+        // A read of the rows is what tells the prover that they have a root.
+        let _ = self.rows.len();
+        0
+    }
+
     /// How many nodes are not gone.
     #[tactic(auto, using(crate::proofs::Sound::live_is))]
     pub fn live(&self) -> u32

@@ -1,9 +1,10 @@
-use Rattle.std.proofs.Common.{◌≡◌, ◌∙◌, ◌-◌, ◌≤◌, ℕ, suc, List, [], ◌∷◌, Option, None, length, get_or, refl, ap, arith}
+use Rattle.std.proofs.Common.{◌≡◌, ◌∙◌, ◌-◌, ◌≤◌, ℕ, suc, List, [], ◌∷◌, Option, Some, None, length, get_or, refl, sym, ap, arith, is_some}
+use Rattle.std.proofs.lemmas.Bool.{false≢true}
 use Rattle.world_spec.specs.declared.walks.Walker.{Walker}
 use Rattle.tree_spec.specs.Trees.{Nodes, node_named}
 use Rattle.world_spec.specs.Walks.{onward, but_last, last_name, path_directory, path_node, walk_on, walk_to_directory}
 
-last_is : (names : List (List ℕ)) (last : List ℕ) → 1 ≤ length names → get_or names (length names - 1) last ≡ last_name names
+pub last_is : (names : List (List ℕ)) (last : List ℕ) → 1 ≤ length names → get_or names (length names - 1) last ≡ last_name names
 last_is [] last some = absurd (omega (arith, some))
 last_is (n ∷ []) last some = refl
 last_is (n ∷ m ∷ ns) last some =
@@ -24,3 +25,9 @@ node_is nodes names last dir o some is leads next =
 pub walk_is : (who : Walker) (nodes : Nodes) (names : List (List ℕ)) → 1 ≤ length names → walk_on who nodes 0 (but_last names) ≡ walk_to_directory who nodes names
 walk_is who nodes [] some = absurd (omega (arith, some))
 walk_is who nodes (n ∷ ns) some = refl
+
+-- where a path leads to nothing, its last name is free in its directory
+pub last_is_free : (nodes : Nodes) (names : List (List ℕ)) (d : ℕ) → path_directory nodes names ≡ Some d → path_node nodes names ≡ None
+    → node_named nodes d (last_name names) ≡ None
+last_is_free nodes [] d leads none = absurd (false≢true (ap is_some (sym none)))
+last_is_free nodes (n ∷ ns) d leads none = sym (ap (λ o. onward None o (λ k. node_named nodes k (last_name (n ∷ ns)))) leads) ∙ none

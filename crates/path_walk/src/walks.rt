@@ -1,8 +1,9 @@
 ghost use Rattle.std.specs.Prelude.{◌≡◌, ◌++◌, ◌∷◌, [], None, IfOk, OnOk};
 ghost use Rattle.tree_spec.specs.Trees.{node_named};
-ghost use Rattle.world_spec.specs.Walks.{onward, node_of, but_last, path_directory, path_node, asks_to_search as asks_to_search_of, walk_on, walk_to_directory, walk_to_node};
+ghost use Rattle.world_spec.specs.Walks.{node_of, but_last, path_directory, path_node, asks_to_search as asks_to_search_of, walk_on, walk_to_directory, walk_to_node};
 ghost use Rattle.path_walk.specs.Steps.{look_up, step_parts};
 
+use crate::places::node_named_last;
 use file_tree::Tree;
 use rules_spec::EXECUTE;
 use smack_base::Bytes;
@@ -84,16 +85,6 @@ fn put_dirs(
     Ok(Some(dir))
 }
 
-/// The node of a last name in a directory.
-fn last_node(tree: &Tree, dir: Option<u32>, name: &[u8]) -> Option<u32>
-    ensures { result ≡ onward None dir (λ d. node_named tree.now d name.now) }
-{
-    match dir {
-        None => None,
-        Some(d) => tree.look(d, name),
-    }
-}
-
 /// Adds the walk to the directory that has the last name of a path, and gives where the path leads.
 pub fn put_walk_to_directory(
     parts: &mut Vec<Part>,
@@ -114,7 +105,7 @@ pub fn put_walk_to_directory(
             let dir = put_dirs(parts, who, tree, dirs)?;
             Ok(Walked {
                 dir,
-                node: last_node(tree, dir, last.items()),
+                node: node_named_last(tree, dir, last.items()),
             })
         }
     }

@@ -5,5 +5,5 @@ use Rattle.path_walk.proofs.walks.put_walk_to_directory.Goals as goal
 pub returns-in_ok-dir-in-len1-up-clause-node : goal.returns-in_ok-dir-in-len1-up-clause-node
 returns-in_ok-dir-in-len1-up-clause-node c =
     let names = c.args.names.now in
-    node_is c.args.tree.now names c.items.result.now c.in_ok-dir-in-len1-up.dir c.last_node.result (omega arith)
-    (c.items.ensures ∙ c.last-item.is ∙ ap (λ d. get_or names (length names - 1) d) (sym c.items.ensures)) c.in_ok-dir-in-len1-up.ensures.node c.last_node.ensures
+    node_is c.args.tree.now names c.items.result.now c.in_ok-dir-in-len1-up.dir c.node_named_last.result (omega arith)
+    (c.items.ensures ∙ c.last-item.is ∙ ap (λ d. get_or names (length names - 1) d) (sym c.items.ensures)) c.in_ok-dir-in-len1-up.ensures.node c.node_named_last.ensures.node
