@@ -1,3 +1,4 @@
 pub mod Rising
 pub mod Taking
 pub mod Appending
+pub mod Known

@@ -9,6 +9,10 @@ pub record Seen : Type 0 where
 abbrev pub seen : {T : Type 0} → (T → Option (List ℕ)) → (T → ℕ) → T → Seen
 seen bytes faults it = record { bytes = bytes it; faults = faults it }
 
+-- what is seen of one that has not failed, and tells these bytes or none
+abbrev pub unfailed : Option (List ℕ) → Seen
+unfailed bytes = record { bytes = bytes; faults = 0 }
+
 -- what is seen of one that tells these bytes and never fails
 abbrev pub calm : List ℕ → Seen
-calm bytes = record { bytes = Some bytes; faults = 0 }
+calm bytes = unfailed (Some bytes)

@@ -1,4 +1,4 @@
-ghost use Rattle.std.specs.Prelude.{◌≡◌, ◌≢◌, ◌≤◌, Err, OnOk, OnErr};
+ghost use Rattle.std.specs.Prelude.{◌≡◌, ◌≢◌, ◌≤◌, Err, IsTrue, OnOk, OnErr};
 ghost use Rattle.outside.specs.Faults.{Rose};
 ghost use Rattle.outside.specs.Sink.{Appends, AppendsFront};
 
@@ -11,6 +11,7 @@ pub fn offer<K: Sink>(sink: &mut K, piece: &[u8]) -> Result<(), SinkFault>
     ensures later { K.faults sink.old ≤ K.faults sink.new }
     ensures failed { result ≡ Err SinkFault.Failed → Rose (K.faults sink.old) (K.faults sink.new) }
     ensures told { result ≢ Err SinkFault.Failed → K.faults sink.new ≡ K.faults sink.old }
+    ensures memory { result ≡ Err SinkFault.Memory → IsTrue K.takes_memory }
 {
     let mut rest = piece;
     while !rest.is_empty() {

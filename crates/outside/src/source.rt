@@ -1,5 +1,6 @@
 ghost use Rattle.std.specs.Prelude.{◌≡◌, ◌<◌, ◌≤◌, ℕ, List, [], Option, Some, length, take, None, IfOk, OnOk, OnErr};
 ghost use Rattle.outside.specs.Faults.{Rose};
+ghost use Rattle.std.specs.Io.KnownBytes.{Keeps};
 ghost use Rattle.outside.specs.Source.{Takes, AtEnd, CountsRead};
 
 /// A read failed, and the source's count of faults rose.
@@ -23,7 +24,7 @@ pub trait Source {
         ensures bytes { IfOk result (λ n. Takes (left self.old) (left self.new) (take n into.new)) }
         ensures end { IfOk result (λ n. n ≡ 0 → 0 < length into.new → AtEnd (left self.new)) }
         ensures only_end { IfOk result (λ n. left self.old ≡ Some [] → n ≡ 0) }
-        ensures unread { OnErr result (left self.new ≡ left self.old) }
+        ensures unread { OnErr result (Keeps (left self.old) (left self.new)) }
         ensures later { faults self.old ≤ faults self.new }
         ensures failed { OnErr result (Rose (faults self.old) (faults self.new)) }
         ensures told { OnOk result (faults self.new ≡ faults self.old) }

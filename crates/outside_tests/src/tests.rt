@@ -1,8 +1,8 @@
 ghost use Rattle.std.specs.Prelude.{◌≤◌, IfOk};
 
 use outside::{
-    CalmSink, CalmSource, Failed, MemSink, MemSource, Sink, SinkFault, Source, StdSink, StdSource,
-    Unread, offer, read_all,
+    CalmSink, CalmSource, DirectSink, Failed, MemSink, MemSource, Sink, SinkFault, Source, StdSink,
+    StdSource, Unread, offer, read_all,
 };
 use std::io;
 use std::io::{ErrorKind, Read, Write};
@@ -114,14 +114,11 @@ fn std_ones_hand_on_what_they_are_answered(rt: HostRuntime) {
     assert_eq!(rt; source.read(&mut into), Ok(1));
     assert_eq!(rt; source.read(&mut into), Ok(0));
     assert_eq!(rt; source.read(&mut into), Err(Failed));
-    let mut sink = StdSink::unbuffered(rt.alloc(), Fading { most: 2 });
+    let mut sink = DirectSink::new(Fading { most: 2 });
     assert_eq!(rt; sink.write(b"abcd"), Ok(1));
     assert_eq!(rt; sink.write(b"bcd"), Err(SinkFault::Failed));
     assert_eq!(rt; sink.write(b"bcd"), Err(SinkFault::Failed));
-    assert_eq!(rt;
-        StdSink::unbuffered(rt.alloc(), Fading { most: 1 }).write(b""),
-        Ok(0)
-    );
+    assert_eq!(rt; DirectSink::new(Fading { most: 1 }).write(b""), Ok(0));
 }
 
 /// Gives a byte a call, but for one call, which fails.

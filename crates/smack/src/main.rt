@@ -4,8 +4,10 @@
 #![tactic(auto)]
 
 use smack_program::program;
+use std::env;
 use std::process::ExitCode;
 
 fn main(rt: HostRuntime) -> ExitCode {
-    ExitCode::from(program(&rt, rt.stdin(), rt.stdout(), rt.stderr()))
+    let finished = program(&rt, env::args(&rt), rt.stdin(), rt.stdout(), rt.stderr());
+    ExitCode::from(finished.ending.code)
 }

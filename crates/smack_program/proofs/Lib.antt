@@ -8,3 +8,5 @@ pub mod Malformed
 pub mod FaultsTold
 pub mod ExitStatuses
 pub mod Promises
+pub mod Streams
+pub mod WordsLeft

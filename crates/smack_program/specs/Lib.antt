@@ -6,3 +6,4 @@ pub mod Scripts
 pub mod Replay
 pub mod Run
 pub mod Program
+pub mod Given

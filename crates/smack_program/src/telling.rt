@@ -1,4 +1,4 @@
-ghost use Rattle.std.specs.Prelude.{◌≡◌, ◌≢◌, ◌≤◌, ◌++◌, Err, OnOk, OnErr, decimal};
+ghost use Rattle.std.specs.Prelude.{◌≡◌, ◌≢◌, ◌≤◌, ◌++◌, Err, IsTrue, OnOk, OnErr, decimal};
 ghost use Rattle.outside.specs.Faults.{Rose};
 ghost use Rattle.outside.specs.Sink.{Appends, AppendsFront};
 ghost use Rattle.smack_program.specs.Errors.{line_end, cause_text, error_text};
@@ -15,6 +15,7 @@ fn put_both<E: Sink>(errors: &mut E, first: &[u8], second: &[u8]) -> Result<(), 
     ensures later { E.faults errors.old ≤ E.faults errors.new }
     ensures failed { result ≡ Err SinkFault.Failed → Rose (E.faults errors.old) (E.faults errors.new) }
     ensures told { result ≢ Err SinkFault.Failed → E.faults errors.new ≡ E.faults errors.old }
+    ensures memory { result ≡ Err SinkFault.Memory → IsTrue E.takes_memory }
 {
     offer(errors, first)?;
     offer(errors, second)
@@ -27,6 +28,7 @@ fn put_number<E: Sink>(errors: &mut E, text: &[u8], n: u32) -> Result<(), SinkFa
     ensures later { E.faults errors.old ≤ E.faults errors.new }
     ensures failed { result ≡ Err SinkFault.Failed → Rose (E.faults errors.old) (E.faults errors.new) }
     ensures told { result ≢ Err SinkFault.Failed → E.faults errors.new ≡ E.faults errors.old }
+    ensures memory { result ≡ Err SinkFault.Memory → IsTrue E.takes_memory }
 {
     let mut buffer = Buffer::new();
     put_both(errors, text, buffer.format(n).as_bytes())
@@ -39,6 +41,7 @@ fn put_numbered<E: Sink>(errors: &mut E, text: &[u8], n: u32, rest: &[u8]) -> Re
     ensures later { E.faults errors.old ≤ E.faults errors.new }
     ensures failed { result ≡ Err SinkFault.Failed → Rose (E.faults errors.old) (E.faults errors.new) }
     ensures told { result ≢ Err SinkFault.Failed → E.faults errors.new ≡ E.faults errors.old }
+    ensures memory { result ≡ Err SinkFault.Memory → IsTrue E.takes_memory }
 {
     put_number(errors, text, n)?;
     offer(errors, rest)
@@ -51,6 +54,7 @@ fn put_cause<E: Sink>(errors: &mut E, cause: Cause) -> Result<(), SinkFault>
     ensures later { E.faults errors.old ≤ E.faults errors.new }
     ensures failed { result ≡ Err SinkFault.Failed → Rose (E.faults errors.old) (E.faults errors.new) }
     ensures told { result ≢ Err SinkFault.Failed → E.faults errors.new ≡ E.faults errors.old }
+    ensures memory { result ≡ Err SinkFault.Memory → IsTrue E.takes_memory }
 {
     match cause {
         Cause::Task => offer(errors, b"task\n"),
@@ -71,6 +75,7 @@ fn put_malformed<E: Sink>(errors: &mut E, line: u32, cause: Cause) -> Result<(),
     ensures later { E.faults errors.old ≤ E.faults errors.new }
     ensures failed { result ≡ Err SinkFault.Failed → Rose (E.faults errors.old) (E.faults errors.new) }
     ensures told { result ≢ Err SinkFault.Failed → E.faults errors.new ≡ E.faults errors.old }
+    ensures memory { result ≡ Err SinkFault.Memory → IsTrue E.takes_memory }
 {
     put_numbered(errors, b"smack: line ", line, b": ")?;
     put_cause(errors, cause)
@@ -97,6 +102,7 @@ pub fn tell<E: Sink>(errors: &mut E, status: Status) -> Result<(), SinkFault>
     ensures later { E.faults errors.old ≤ E.faults errors.new }
     ensures failed { result ≡ Err SinkFault.Failed → Rose (E.faults errors.old) (E.faults errors.new) }
     ensures told { result ≢ Err SinkFault.Failed → E.faults errors.new ≡ E.faults errors.old }
+    ensures memory { result ≡ Err SinkFault.Memory → IsTrue E.takes_memory }
 {
     match status {
         Status::Done => Ok(()),

@@ -1,7 +1,6 @@
 use Rattle.std.proofs.Common.{refl, sym, ap, ◌∙◌}
 use Rattle.smack_program.specs.Statuses.{may_have_written}
 use Rattle.smack_program.proofs.ExitStatuses.{done_of, usage_of, untouched_of}
-use Rattle.smack_program.proofs.FaultsTold.{tells}
 use Rattle.smack_program.proofs.running.told_main.Goals as goal
 
 -- the status is that of the command
@@ -16,21 +15,18 @@ returns-clause-ends g c = (
       rw (c.smack_main-status.ensures.unread is) refl,
       rw (c.smack_main-status.ensures.untouched (ap may_have_written is)) refl,
     );
-    told = c.tell.ensures.ok;
-    cut = c.tell.ensures.err;
-    fault = tells c.tell.result _ _ c.tell.ensures.later c.tell.ensures.failed c.tell.ensures.told;
-    code = c.code.ensures;
   },
+  c.end.ensures,
 )
 
 pub returns-clause-unread : goal.returns-clause-unread
-returns-clause-unread g c = λ is. c.smack_main-status.ensures.unread (usage_of c.smack_main-status.result (sym c.code.ensures ∙ is))
+returns-clause-unread g c = λ is. c.smack_main-status.ensures.unread (usage_of c.smack_main-status.result (sym c.end.ensures.code ∙ is))
 
 pub returns-clause-handed_on : goal.returns-clause-handed_on
-returns-clause-handed_on g c = λ is. c.smack_main-status.ensures.handed_on (done_of c.smack_main-status.result (sym c.code.ensures ∙ is))
+returns-clause-handed_on g c = λ is. c.smack_main-status.ensures.handed_on (done_of c.smack_main-status.result (sym c.end.ensures.code ∙ is))
 
 pub returns-clause-untouched : goal.returns-clause-untouched
 returns-clause-untouched g c = λ done write memory.
     c.smack_main-status.ensures.untouched
-    (untouched_of c.smack_main-status.result (λ is. done (c.code.ensures ∙ is)) (λ is. write (c.code.ensures ∙ is))
-    (λ is. memory (c.code.ensures ∙ is)))
+    (untouched_of c.smack_main-status.result (λ is. done (c.end.ensures.code ∙ is)) (λ is. write (c.end.ensures.code ∙ is))
+    (λ is. memory (c.end.ensures.code ∙ is)))
