@@ -8,7 +8,7 @@ use Rattle.rules_spec.specs.Creds.{is_effective}
 use Rattle.file_spec.specs.declared.Refusal.{Refusal}
 use Rattle.file_spec.specs.Writes.{rule_file}
 use Rattle.text_spec.specs.Names.{place_of}
-use Rattle.script_spec.specs.Words.{is_task_name}
+use Rattle.verb_spec.specs.Words.{is_task_name}
 use Rattle.world_spec.specs.declared.Entry.{Entry}
 use Rattle.world_spec.specs.Worlds.{World, world_first}
 use Rattle.world_spec.specs.Replays.{version_of, step_of, after_entry, cred_at}

@@ -5,7 +5,7 @@ use Rattle.std.specs.List.{list_all}
 use Rattle.std.proofs.lemmas.Bool.Decides.{Decides-and, Decides-like, Decides-eqb, Decides-ltb}
 use Rattle.std.proofs.lemmas.Option.{slice_get_within, slice_get-get_or, get_or_from_slice_get}
 use Rattle.text_spec.specs.Names.{place_of}
-use Rattle.script_spec.specs.Words.{is_task_name}
+use Rattle.verb_spec.specs.Words.{is_task_name}
 use Rattle.replay_spec.specs.Plain.{IsNameTable}
 use Rattle.legal_forms.specs.Forms.{all_from, are_names}
 use Rattle.legal_forms.specs.Laws.{NamesAreDecided}

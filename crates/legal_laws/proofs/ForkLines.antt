@@ -8,7 +8,7 @@ use Rattle.file_spec.specs.declared.Refusal.{Refusal}
 use Rattle.file_spec.specs.declared.Compiled.{Compiled}
 use Rattle.file_spec.specs.declared.Compiled.TheVariants as Compiled
 use Rattle.file_spec.specs.Files.{compiled}
-use Rattle.script_spec.specs.declared.Verb.TheVariants as Verb
+use Rattle.verb_spec.specs.declared.Verb.TheVariants as Verb
 use Rattle.script_spec.specs.Lines.{ScriptLine, word_in, verb_in}
 use Rattle.script_spec.specs.Tasks.{change_of, is_fork, parents_in, task_names}
 use Rattle.world_spec.specs.declared.tasks.TaskCall.TheVariants as TaskCall
@@ -16,7 +16,8 @@ use Rattle.world_spec.specs.declared.Call.{Call}
 use Rattle.world_spec.specs.declared.Call.TheVariants as Call
 use Rattle.replay_spec.specs.declared.Act.{Act}
 use Rattle.replay_spec.specs.declared.Act.TheVariants as Act
-use Rattle.replay_spec.specs.Calls.{pid_in, of_one, file_call}
+use Rattle.verb_spec.specs.Values.{pid_in}
+use Rattle.replay_spec.specs.Calls.{of_one, file_call}
 use Rattle.replay_spec.specs.Acts.{act_of_line, call_by, call_of_line}
 use Rattle.replay_spec.proofs.ReadCalls.{act_words}
 use Rattle.replay_laws.proofs.InStep.{made_quiet}

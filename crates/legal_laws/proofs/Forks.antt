@@ -2,8 +2,8 @@ use Rattle.std.proofs.Common.{◌≡◌, ◌<◌, ℕ, ◌+◌, Bool, true, fals
 use Rattle.std.proofs.lemmas.Bool.{cases_Bool, eqb-true, lt-leb}
 use Rattle.smack_base.specs.declared.ids.Pid.{Pid}
 use Rattle.rules_spec.specs.Rulings.{ruling}
-use Rattle.script_spec.specs.declared.Verb.{Verb}
-use Rattle.script_spec.specs.declared.Verb.TheVariants as Verb
+use Rattle.verb_spec.specs.declared.Verb.{Verb}
+use Rattle.verb_spec.specs.declared.Verb.TheVariants as Verb
 use Rattle.script_spec.specs.Lines.{ScriptLine, word_in, verb_in}
 use Rattle.script_spec.specs.Tasks.{change_by, change_of, is_fork, has_exit, forked_name, parents_in, task_names}
 use Rattle.world_spec.specs.declared.tasks.TaskCall.TheVariants as TaskCall
@@ -16,7 +16,8 @@ use Rattle.world_spec.specs.Steps.{step}
 use Rattle.record_spec.specs.declared.AskedWhat.{AskedWhat}
 use Rattle.record_spec.specs.declared.AskedWhat.TheVariants as AskedWhat
 use Rattle.replay_spec.specs.declared.Act.TheVariants as Act
-use Rattle.replay_spec.specs.Calls.{pid_in, of_one}
+use Rattle.verb_spec.specs.Values.{pid_in}
+use Rattle.replay_spec.specs.Calls.{of_one}
 use Rattle.replay_spec.specs.Acts.{act_by, call_by, call_of_line}
 use Rattle.replay_spec.proofs.ReadCalls.{act_words}
 use Rattle.replay_spec.specs.Plain.{IsNameTable}

@@ -5,13 +5,13 @@ use Rattle.std.proofs.lemmas.Bool.{eqb-true, eq-eqb, ltb-true}
 use Rattle.std.proofs.lemmas.List.Folds.{list_any-append}
 use Rattle.smack_base.specs.declared.ids.Pid.{Pid}
 use Rattle.text_spec.specs.Names.{place_of, has_name}
-use Rattle.script_spec.specs.declared.Verb.{Verb}
-use Rattle.script_spec.specs.declared.Verb.TheVariants as Verb
-use Rattle.script_spec.specs.Words.{word_at}
+use Rattle.verb_spec.specs.declared.Verb.{Verb}
+use Rattle.verb_spec.specs.declared.Verb.TheVariants as Verb
+use Rattle.verb_spec.specs.Words.{word_at}
 use Rattle.script_spec.specs.Lines.{ScriptLine, word_in, verb_in}
 use Rattle.script_spec.specs.Tasks.{TaskChange, Forks, Exits, Awaits, Keeps, change_by, change_of, forked_name, is_wait_for, has_wait, parents_in, task_names, tasks_of, is_latest_child}
 use Rattle.script_spec.specs.Causes.{is_wait_good}
-use Rattle.replay_spec.specs.Calls.{pid_in}
+use Rattle.verb_spec.specs.Values.{pid_in}
 use Rattle.plain_laws.proofs.GoodLines.{IsGoodLine, good_verb}
 use Rattle.plain_laws.proofs.Tasks.{names_more}
 use Rattle.replay_laws.proofs.KnownWords.{child_has_name}

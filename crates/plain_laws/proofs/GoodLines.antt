@@ -4,14 +4,17 @@ use Rattle.std.specs.Option.{option_map}
 use Rattle.std.proofs.lemmas.Bool.{eqb-true, and_parts, ltb-true, ltb-false}
 use Rattle.text_spec.specs.Texts.{Placed, lines_from}
 use Rattle.text_spec.specs.Names.{place_of}
-use Rattle.script_spec.specs.declared.Verb.{Verb}
-use Rattle.script_spec.specs.declared.WordKind.{WordKind}
+use Rattle.verb_spec.specs.declared.Verb.{Verb}
+use Rattle.verb_spec.specs.declared.WordKind.{WordKind}
 use Rattle.script_spec.specs.declared.Cause.{Cause}
 use Rattle.script_spec.specs.declared.Cause.TheVariants as Cause
 use Rattle.script_spec.specs.declared.What.TheVariants as What
 use Rattle.script_spec.specs.declared.ScriptFault.{ScriptFault}
 use Rattle.script_spec.specs.declared.ScriptFault.TheVariants as ScriptFault
-use Rattle.script_spec.specs.Words.{verb_of, kinds_of, is_of_kind, bad_word, has_deep_path, is_task_name, is_unbuilt_verb, word_at}
+use Rattle.verb_spec.specs.Verbs.{verb_of, kinds_of, is_unbuilt_verb}
+use Rattle.verb_spec.specs.Kinds.{is_of_kind, bad_word}
+use Rattle.verb_spec.specs.GONE.{has_deep_path}
+use Rattle.verb_spec.specs.Words.{is_task_name, word_at}
 use Rattle.script_spec.specs.Lines.{ScriptLine, verb_in}
 use Rattle.script_spec.specs.Tasks.{Tasks, task_names, has_exit, calls_by, tasks_of, pid_of, is_gone, is_live_name}
 use Rattle.script_spec.specs.Causes.{cause_if, first_cause, names_unbuilt_file, is_name_good, is_wait_good, words_cause, unless_verb, verb_cause, behind_task, line_cause}

@@ -1,7 +1,7 @@
 use Rattle.std.proofs.Common.{◌≡◌, true, List, [], ◌∷◌}
 use Rattle.text_spec.specs.Texts.{Placed}
-use Rattle.script_spec.specs.declared.WordKind.{WordKind}
-use Rattle.script_spec.specs.Words.{is_of_kind}
+use Rattle.verb_spec.specs.declared.WordKind.{WordKind}
+use Rattle.verb_spec.specs.Kinds.{is_of_kind}
 use Rattle.script_spec.specs.Lines.{ScriptLine, word_in}
 use Rattle.plain_laws.proofs.GoodLines.{AreOfKinds}
 

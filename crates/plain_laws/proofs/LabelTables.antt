@@ -7,11 +7,11 @@ use Rattle.text_spec.specs.Names.{predefined, IsLabelTable}
 use Rattle.label_table.proofs.LabelTables.{with_labels, predefined_is}
 use Rattle.file_spec.specs.declared.SmackFile.{SmackFile}
 use Rattle.file_spec.specs.Writes.{NamedWrite, NamedSet, NamedChange, NamedRevoke, NamedClear, NamedAdd, NamedAmbient, NamedPtrace, NamedLogging, labels_named, file_of, read_as, writes_of_text, names_of_writes, names_of_text}
-use Rattle.script_spec.specs.declared.Verb.{Verb}
-use Rattle.script_spec.specs.declared.Verb.TheVariants as Verb
-use Rattle.script_spec.specs.declared.WordKind.{WordKind}
-use Rattle.script_spec.specs.declared.WordKind.TheVariants as WordKind
-use Rattle.script_spec.specs.Words.{kinds_of}
+use Rattle.verb_spec.specs.declared.Verb.{Verb}
+use Rattle.verb_spec.specs.declared.Verb.TheVariants as Verb
+use Rattle.verb_spec.specs.declared.WordKind.{WordKind}
+use Rattle.verb_spec.specs.declared.WordKind.TheVariants as WordKind
+use Rattle.verb_spec.specs.Verbs.{kinds_of}
 use Rattle.script_spec.specs.Lines.{ScriptLine, word_in, label_words, text_labels, labels_by, labels_of, table_of}
 use Rattle.script_spec.specs.Grammar.{parse}
 use Rattle.plain_laws.proofs.Lists.{all_append, all_flat_map}

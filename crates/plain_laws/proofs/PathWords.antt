@@ -9,7 +9,7 @@ use Rattle.smack_base.specs.declared.path.PathFault.TheVariants as PathFault
 use Rattle.smack_base.specs.Paths.{PathName, is_slash, is_name_byte, names_from, name_fault, first_path_fault, unless_bad_name, names_of}
 use Rattle.log_spec.proofs.PrintedBytes.{name_bytes}
 use Rattle.log_spec.specs.Audits.{is_word}
-use Rattle.replay_spec.specs.Calls.{path_in}
+use Rattle.verb_spec.specs.Values.{path_in}
 
 -- texts that are words
 abbrev pub AreWords : List (List ℕ) → Type 0

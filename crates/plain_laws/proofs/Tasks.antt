@@ -5,9 +5,10 @@ use Rattle.std.proofs.lemmas.Grind.{flat_map-append}
 use Rattle.text_spec.specs.Texts.{Placed}
 use Rattle.text_spec.specs.Names.{place_of, has_name}
 use Rattle.label_table.proofs.LabelTables.{once_with_new}
-use Rattle.script_spec.specs.declared.Verb.{Verb}
-use Rattle.script_spec.specs.declared.Verb.TheVariants as Verb
-use Rattle.script_spec.specs.Words.{is_task_name, kinds_of}
+use Rattle.verb_spec.specs.declared.Verb.{Verb}
+use Rattle.verb_spec.specs.declared.Verb.TheVariants as Verb
+use Rattle.verb_spec.specs.Words.{is_task_name}
+use Rattle.verb_spec.specs.Verbs.{kinds_of}
 use Rattle.script_spec.specs.Lines.{ScriptLine}
 use Rattle.script_spec.specs.Tasks.{change_by, change_of, forked_name, task_names, tasks_of}
 use Rattle.script_spec.specs.Causes.{is_name_good}

@@ -1,10 +1,5 @@
 use Rattle.std.specs.Prelude.{ℕ, List, [], ◌∷◌, ◌++◌, Option, length, map, codes}
-use Rattle.std.specs.List.{flat_map}
-use Rattle.smack_base.specs.declared.cap.Cap.{Cap}
-use Rattle.smack_base.specs.declared.rule_op.Pair.{Pair}
 use Rattle.rules_spec.specs.declared.Verdict.{Verdict}
-use Rattle.world_spec.specs.declared.tasks.TaskCall.{TaskCall}
-use Rattle.world_spec.specs.declared.trees.TreeCall.{TreeCall}
 use Rattle.world_spec.specs.declared.Call.{Call}
 use Rattle.world_spec.specs.declared.Why.{Why}
 use Rattle.world_spec.specs.declared.Reply.{Reply}
@@ -12,66 +7,8 @@ use Rattle.world_spec.specs.declared.Entry.{Entry}
 use Rattle.log_spec.specs.declared.Action.{Action}
 use Rattle.log_spec.specs.Numerals.{numeral}
 use Rattle.log_spec.specs.Words.{call_number, version_word, decision}
-use Rattle.log_spec.specs.Shown.{Shown, Plain, LabelAt, NameOf, plain_words, triple, PrintedLine, Says, audit_lines}
-
--- a path: each of its names behind a slash, and the root as one slash
-abbrev pub path_text : List (List ℕ) → List ℕ
-path_text [] = codes "/"
-path_text (n ∷ ns) = flat_map (λ name. codes "/" ++ name) (n ∷ ns)
-
--- the name of a capability
-abbrev pub cap_text : Cap → List ℕ
-cap_text Cap.MacAdmin = codes "mac-admin"
-cap_text Cap.MacOverride = codes "mac-override"
-cap_text Cap.SysPtrace = codes "sys-ptrace"
-
--- the verb of a call
-abbrev pub task_verb : TaskCall → List ℕ
-task_verb (TaskCall.Fork pid) = codes "fork"
-task_verb TaskCall.Exit = codes "exit"
-task_verb (TaskCall.Relabel l) = codes "relabel"
-task_verb (TaskCall.DropCap cap) = codes "drop"
-task_verb (TaskCall.SelfRules rules) = codes "self"
-task_verb (TaskCall.Relabels labels) = codes "relabels"
-task_verb (TaskCall.Kill pid sig) = codes "kill"
-task_verb TaskCall.Take = codes "take"
-task_verb (TaskCall.TraceRead pid) = codes "trace"
-task_verb (TaskCall.TraceAttach pid) = codes "trace"
-
-abbrev pub tree_verb : TreeCall → List ℕ
-tree_verb (TreeCall.Create path) = codes "create"
-tree_verb (TreeCall.Unlink path) = codes "unlink"
-tree_verb (TreeCall.ListDir path at) = codes "list"
-
-abbrev pub call_verb : Call → List ℕ
-call_verb (Call.Task call) = task_verb call
-call_verb (Call.Tree call) = tree_verb call
-
--- the words of self rules, one after the other
-abbrev pub rule_words : List Pair → List Shown
-rule_words rules = flat_map (λ p. triple p.s p.o p.m) rules
-
--- the words of a call behind its verb
-abbrev pub task_words : TaskCall → List Shown
-task_words (TaskCall.Fork pid) = NameOf pid ∷ []
-task_words TaskCall.Exit = []
-task_words (TaskCall.Relabel l) = LabelAt l ∷ []
-task_words (TaskCall.DropCap cap) = Plain (cap_text cap) ∷ []
-task_words (TaskCall.SelfRules rules) = Plain (numeral (length rules)) ∷ rule_words rules
-task_words (TaskCall.Relabels list) = Plain (numeral (length list)) ∷ map LabelAt list
-task_words (TaskCall.Kill pid sig) = NameOf pid ∷ Plain (numeral sig) ∷ []
-task_words TaskCall.Take = []
-task_words (TaskCall.TraceRead pid) = Plain (codes "read") ∷ NameOf pid ∷ []
-task_words (TaskCall.TraceAttach pid) = Plain (codes "attach") ∷ NameOf pid ∷ []
-
-abbrev pub tree_words : TreeCall → List Shown
-tree_words (TreeCall.Create path) = Plain (path_text path) ∷ []
-tree_words (TreeCall.Unlink path) = Plain (path_text path) ∷ []
-tree_words (TreeCall.ListDir path at) = Plain (path_text path) ∷ Plain (numeral at) ∷ []
-
-abbrev pub call_words : Call → List Shown
-call_words (Call.Task call) = task_words call
-call_words (Call.Tree call) = tree_words call
+use Rattle.log_spec.specs.Shown.{Shown, Plain, plain_words, triple, PrintedLine, Says, audit_lines}
+use Rattle.verb_spec.specs.Verbs.{call_verb, call_words}
 
 -- a call as words, the verb first
 abbrev pub verb_words : Call → List Shown

@@ -1,28 +1,17 @@
 use Rattle.std.specs.Prelude.{ℕ, ◌==◌, if◌then◌else◌, List, [], ◌∷◌, Option, Some, None, fold, nat_lt}
 use Rattle.std.specs.List.{list_any, insert, position_or_len}
 use Rattle.smack_base.specs.declared.ids.Pid.{Pid}
-use Rattle.world_spec.specs.declared.tasks.TaskCall.{TaskCall}
+use Rattle.world_spec.specs.declared.tasks.TaskCall.TheVariants as TaskCall
 use Rattle.world_spec.specs.declared.Call.{Call}
+use Rattle.world_spec.specs.declared.Call.TheVariants as Call
 use Rattle.world_spec.specs.declared.Entry.{Entry}
 use Rattle.world_spec.specs.Replies.{child_of}
 use Rattle.record_spec.specs.declared.NumberedTask.{NumberedTask}
 
-abbrev pub task_forked : TaskCall → Option Pid
-task_forked (TaskCall.Fork pid) = Some pid
-task_forked TaskCall.Exit = None
-task_forked (TaskCall.Relabel l) = None
-task_forked (TaskCall.DropCap cap) = None
-task_forked (TaskCall.SelfRules rules) = None
-task_forked (TaskCall.Relabels labels) = None
-task_forked (TaskCall.Kill pid sig) = None
-task_forked TaskCall.Take = None
-task_forked (TaskCall.TraceRead pid) = None
-task_forked (TaskCall.TraceAttach pid) = None
-
 -- the pid that a call forks
 abbrev pub forked : Call → Option Pid
-forked (Call.Task call) = task_forked call
-forked (Call.Tree call) = None
+forked (Call.Task (TaskCall.Fork pid)) = Some pid
+forked call = None
 
 abbrev pub child_by : Option Pid → Option ℕ → Option NumberedTask
 child_by None k = None

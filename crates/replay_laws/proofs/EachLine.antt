@@ -13,7 +13,7 @@ use Rattle.file_spec.specs.declared.Refusal.TheVariants as Refusal
 use Rattle.file_spec.specs.declared.Compiled.{Compiled}
 use Rattle.file_spec.specs.declared.Compiled.TheVariants as Compiled
 use Rattle.file_spec.specs.Files.{compiled}
-use Rattle.script_spec.specs.Words.{kinds_of}
+use Rattle.verb_spec.specs.Verbs.{kinds_of}
 use Rattle.script_spec.specs.Lines.{ScriptLine, word_in, label_words, text_labels, labels_by, labels_of, table_of}
 use Rattle.script_spec.specs.Grammar.{parse}
 use Rattle.script_spec.specs.Tasks.{TaskChange, Forks, Exits, Awaits, Keeps, forked_name, change_by, change_of, task_names}

@@ -13,10 +13,10 @@ use Rattle.file_spec.specs.declared.Refusal.TheVariants as Refusal
 use Rattle.file_spec.specs.declared.Compiled.{Compiled}
 use Rattle.file_spec.specs.declared.Compiled.TheVariants as Compiled
 use Rattle.file_spec.specs.Files.{compiled}
-use Rattle.script_spec.specs.declared.CallVerb.{CallVerb}
-use Rattle.script_spec.specs.declared.CallVerb.TheVariants as CallVerb
-use Rattle.script_spec.specs.declared.Verb.{Verb}
-use Rattle.script_spec.specs.declared.Verb.TheVariants as Verb
+use Rattle.verb_spec.specs.declared.CallVerb.{CallVerb}
+use Rattle.verb_spec.specs.declared.CallVerb.TheVariants as CallVerb
+use Rattle.verb_spec.specs.declared.Verb.{Verb}
+use Rattle.verb_spec.specs.declared.Verb.TheVariants as Verb
 use Rattle.world_spec.specs.declared.tasks.TaskVerb.{TaskVerb}
 use Rattle.world_spec.specs.declared.tasks.TaskVerb.TheVariants as TaskVerb
 use Rattle.world_spec.specs.declared.tasks.TraceWay.{TraceWay}
@@ -31,7 +31,9 @@ use Rattle.world_spec.specs.Worlds.{TaskRow, task_begun, was_made, is_live, cred
 use Rattle.record_spec.specs.declared.AskedWhat.TheVariants as AskedWhat
 use Rattle.replay_spec.specs.declared.Act.{Act}
 use Rattle.replay_spec.specs.declared.Act.TheVariants as Act
-use Rattle.replay_spec.specs.Calls.{pid_in, modes_in, of_one, traced, task_call, tree_call, made_call}
+use Rattle.verb_spec.specs.Values.{pid_in, modes_in}
+use Rattle.replay_spec.specs.Calls.{of_one, traced, task_call, tree_call}
+use Rattle.verb_spec.specs.Verbs.{made_call}
 use Rattle.replay_spec.specs.Acts.{act_by}
 use Rattle.replay_spec.specs.Plain.{IsNameTable}
 use Rattle.replay_spec.specs.Replays.{Run, or_none_yet, number_of_task, noted, published, stepped_by, written, after_act, after_acting, after_line}

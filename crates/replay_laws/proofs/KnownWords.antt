@@ -8,21 +8,26 @@ use Rattle.smack_base.specs.Modes.{is_modes}
 use Rattle.smack_base.specs.Paths.{path_of}
 use Rattle.text_spec.specs.Texts.{Placed}
 use Rattle.text_spec.specs.Names.{place_of, has_name, id_of}
-use Rattle.script_spec.specs.declared.CallVerb.{CallVerb}
-use Rattle.script_spec.specs.declared.CallVerb.TheVariants as CallVerb
-use Rattle.script_spec.specs.declared.Verb.{Verb}
-use Rattle.script_spec.specs.declared.Verb.TheVariants as Verb
+use Rattle.verb_spec.specs.declared.CallVerb.{CallVerb}
+use Rattle.verb_spec.specs.declared.CallVerb.TheVariants as CallVerb
+use Rattle.verb_spec.specs.declared.Verb.{Verb}
+use Rattle.verb_spec.specs.declared.Verb.TheVariants as Verb
 use Rattle.world_spec.specs.declared.tasks.TaskVerb.{TaskVerb}
 use Rattle.world_spec.specs.declared.tasks.TaskVerb.TheVariants as TaskVerb
 use Rattle.world_spec.specs.declared.trees.TreeVerb.{TreeVerb}
 use Rattle.world_spec.specs.declared.trees.TreeVerb.TheVariants as TreeVerb
-use Rattle.script_spec.specs.declared.WordKind.{WordKind}
-use Rattle.script_spec.specs.declared.WordKind.TheVariants as WordKind
-use Rattle.script_spec.specs.Words.{task_kinds, tree_kinds, call_kinds, kinds_of, cap_of, number_of, signal_of, trace_way_of, word_at}
+use Rattle.verb_spec.specs.declared.WordKind.{WordKind}
+use Rattle.verb_spec.specs.declared.WordKind.TheVariants as WordKind
+use Rattle.verb_spec.specs.TaskVerbs.{task_kinds}
+use Rattle.verb_spec.specs.TreeVerbs.{tree_kinds}
+use Rattle.verb_spec.specs.Verbs.{call_kinds, kinds_of}
+use Rattle.verb_spec.specs.Words.{cap_of, number_of, signal_of, trace_way_of, word_at}
 use Rattle.script_spec.specs.Lines.{ScriptLine, word_in, label_words}
 use Rattle.script_spec.specs.Tasks.{TaskChange, Forks, Exits, Awaits, Keeps, forked_name, is_fork, change_by, change_of, parents_in, task_names, tasks_of, pid_of, latest_child, is_pid, is_latest_child}
 use Rattle.script_spec.specs.Causes.{is_task_name_good, is_name_good, is_wait_good}
-use Rattle.replay_spec.specs.Calls.{path_in, pid_in, modes_in, of_one, of_two, of_three, traced, task_call, tree_call, made_call}
+use Rattle.verb_spec.specs.Values.{path_in, pid_in, modes_in}
+use Rattle.replay_spec.specs.Calls.{of_one, of_two, of_three, traced, task_call, tree_call}
+use Rattle.verb_spec.specs.Verbs.{made_call}
 use Rattle.replay_spec.specs.Acts.{act_by}
 use Rattle.plain_laws.proofs.Tables.{HasNames}
 use Rattle.plain_laws.proofs.KindsOfWords.{kind_1, kind_2, kind_3}

@@ -14,11 +14,11 @@ use Rattle.world_spec.specs.declared.tasks.TraceWay.{TraceWay}
 use Rattle.world_spec.specs.declared.tasks.TraceWay.TheVariants as TraceWay
 use Rattle.world_spec.specs.declared.trees.TreeVerb.{TreeVerb}
 use Rattle.world_spec.specs.declared.trees.TreeVerb.TheVariants as TreeVerb
-use Rattle.script_spec.specs.declared.CallVerb.{CallVerb}
-use Rattle.script_spec.specs.declared.CallVerb.TheVariants as CallVerb
-use Rattle.script_spec.specs.declared.Verb.{Verb}
-use Rattle.script_spec.specs.declared.Verb.TheVariants as Verb
-use Rattle.script_spec.specs.Words.{number_of, signal_of}
+use Rattle.verb_spec.specs.declared.CallVerb.{CallVerb}
+use Rattle.verb_spec.specs.declared.CallVerb.TheVariants as CallVerb
+use Rattle.verb_spec.specs.declared.Verb.{Verb}
+use Rattle.verb_spec.specs.declared.Verb.TheVariants as Verb
+use Rattle.verb_spec.specs.Words.{number_of, signal_of}
 use Rattle.script_spec.specs.Lines.{ScriptLine, word_in, verb_in}
 use Rattle.world_spec.specs.declared.tasks.TaskCall.{TaskCall}
 use Rattle.world_spec.specs.declared.tasks.TaskCall.TheVariants as TaskCall
@@ -26,7 +26,9 @@ use Rattle.world_spec.specs.declared.trees.TreeCall.{TreeCall}
 use Rattle.world_spec.specs.declared.trees.TreeCall.TheVariants as TreeCall
 use Rattle.world_spec.specs.declared.Call.{Call}
 use Rattle.world_spec.specs.declared.Call.TheVariants as Call
-use Rattle.replay_spec.specs.Calls.{path_in, pid_in, modes_in, of_one, of_two, of_three, traced, task_call, tree_call, made_call, file_call}
+use Rattle.verb_spec.specs.Values.{path_in, pid_in, modes_in}
+use Rattle.replay_spec.specs.Calls.{of_one, of_two, of_three, traced, task_call, tree_call, file_call}
+use Rattle.verb_spec.specs.Verbs.{made_call}
 use Rattle.replay_spec.specs.declared.Act.{Act}
 use Rattle.replay_spec.specs.declared.Act.TheVariants as Act
 use Rattle.replay_spec.specs.Acts.{act_by, act_of_line, call_by}

@@ -1,15 +1,17 @@
 use Rattle.std.specs.Prelude.{ℕ, List, Option, Some, None}
 use Rattle.text_spec.specs.Names.{id_of}
 use Rattle.file_spec.specs.Files.{compiled}
-use Rattle.script_spec.specs.declared.Verb.{Verb}
-use Rattle.script_spec.specs.declared.Verb.TheVariants as Verb
-use Rattle.script_spec.specs.Lines.{ScriptLine, word_in, verb_in}
+use Rattle.verb_spec.specs.declared.Verb.{Verb}
+use Rattle.verb_spec.specs.declared.Verb.TheVariants as Verb
+use Rattle.script_spec.specs.Lines.{ScriptLine, word_in, verb_in, words_behind}
 use Rattle.world_spec.specs.declared.tasks.TaskCall.TheVariants as TaskCall
 use Rattle.world_spec.specs.declared.Call.{Call}
 use Rattle.world_spec.specs.declared.Call.TheVariants as Call
 use Rattle.replay_spec.specs.declared.Act.{Act}
 use Rattle.replay_spec.specs.declared.Act.TheVariants as Act
-use Rattle.replay_spec.specs.Calls.{pid_in, modes_in, of_one, of_three, made_call, file_call}
+use Rattle.verb_spec.specs.Values.{pid_in, modes_in}
+use Rattle.verb_spec.specs.Verbs.{made_call}
+use Rattle.replay_spec.specs.Calls.{of_one, of_three, file_call}
 
 abbrev pub act_by : List (List ℕ) → List (List ℕ) → ScriptLine → Option Verb → Option Act
 act_by labels names l None = None
@@ -19,7 +21,7 @@ act_by labels names l (Some Verb.Ask) =
 act_by labels names l (Some Verb.Wait) = of_one (pid_in names (word_in 1 l)) (λ pid. Act.Wait pid)
 act_by labels names l (Some Verb.Fork) = of_one (pid_in names (word_in 1 l)) (λ pid. Act.Fork pid)
 act_by labels names l (Some Verb.Exit) = Some (Act.Make (Call.Task TaskCall.Exit))
-act_by labels names l (Some (Verb.Call verb)) = of_one (made_call labels names l verb) (λ call. Act.Make call)
+act_by labels names l (Some (Verb.Call verb)) = of_one (made_call labels names verb (words_behind l)) (λ call. Act.Make call)
 
 -- What a line does, by the labels and the names of the tasks: nothing where it has no verb, or words that are not of
 -- their kinds or not known; no script has such a line.

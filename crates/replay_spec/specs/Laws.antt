@@ -7,7 +7,7 @@ use Rattle.world_spec.specs.declared.Entry.{Entry}
 use Rattle.record_spec.specs.declared.RunRecord.{RunRecord}
 use Rattle.log_spec.specs.declared.Action.{Action}
 use Rattle.log_spec.specs.Audits.{IsAudited, audited}
-use Rattle.record_spec.specs.Entries.{call_verb}
+use Rattle.verb_spec.specs.Verbs.{call_verb}
 use Rattle.record_spec.specs.Show.{show}
 use Rattle.replay_spec.specs.Replays.{replayed}
 use Rattle.replay_spec.specs.Plain.{IsPlain}

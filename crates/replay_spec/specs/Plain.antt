@@ -9,7 +9,7 @@ use Rattle.rules_spec.specs.declared.Batch.{Batch}
 use Rattle.rules_spec.specs.declared.Verdict.{Verdict}
 use Rattle.rules_spec.specs.Creds.{most_self_rules, most_relabels}
 use Rattle.rules_spec.specs.Verdicts.{goes_over}
-use Rattle.script_spec.specs.Words.{is_task_name, is_file_name}
+use Rattle.verb_spec.specs.Words.{is_task_name, is_file_name}
 use Rattle.script_spec.specs.Lines.{ScriptLine}
 use Rattle.world_spec.specs.declared.Call.{Call}
 use Rattle.world_spec.specs.declared.Why.{Why}

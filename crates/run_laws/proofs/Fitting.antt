@@ -7,8 +7,8 @@ use Rattle.world_spec.specs.declared.Call.TheVariants as Call
 use Rattle.world_spec.specs.declared.tasks.TaskCall.TheVariants as TaskCall
 use Rattle.world_spec.specs.declared.Reply.TheVariants as Reply
 use Rattle.world_spec.specs.declared.Entry.{Entry}
-use Rattle.script_spec.specs.declared.Verb.{Verb}
-use Rattle.script_spec.specs.declared.Verb.TheVariants as Verb
+use Rattle.verb_spec.specs.declared.Verb.{Verb}
+use Rattle.verb_spec.specs.declared.Verb.TheVariants as Verb
 use Rattle.script_spec.specs.Lines.{ScriptLine, word_in, verb_in, table_of}
 use Rattle.script_spec.specs.Tasks.{change_by, change_of, forked_name, task_names}
 use Rattle.record_spec.specs.declared.AskedLine.{AskedLine}

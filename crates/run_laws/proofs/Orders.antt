@@ -3,15 +3,15 @@ use Rattle.std.proofs.Common.{◌≡◌, ℕ, ◌<◌, ◌≤◌, ◌==◌, ◌&
 use Rattle.std.specs.List.{list_any, AllByRecursion}
 use Rattle.std.proofs.lemmas.Bool.{eqb-true, eq-eqb, ne_eqb, ltb-true, and_parts, and_from, and_right, or_from, or_right}
 use Rattle.text_spec.specs.Names.{place_of, has_name}
-use Rattle.script_spec.specs.declared.Verb.{Verb}
-use Rattle.script_spec.specs.declared.Verb.TheVariants as Verb
-use Rattle.script_spec.specs.Words.{word_at}
+use Rattle.verb_spec.specs.declared.Verb.{Verb}
+use Rattle.verb_spec.specs.declared.Verb.TheVariants as Verb
+use Rattle.verb_spec.specs.Words.{word_at}
 use Rattle.script_spec.specs.Lines.{ScriptLine, word_in, table_of}
 use Rattle.script_spec.specs.Tasks.{Tasks, TaskChange, Forks, Exits, Awaits, Keeps, change_by, change_of, forked_name, is_wait_for, task_names, tasks_of, latest_child, is_pid, is_latest_child}
 use Rattle.script_spec.specs.Causes.{is_wait_good}
 use Rattle.script_text.specs.TaskTables.{table_after, IsWaitThere}
 use Rattle.script_text.proofs.TaskSteps.{tasks_more, waits_more}
-use Rattle.replay_spec.specs.Calls.{pid_in}
+use Rattle.verb_spec.specs.Values.{pid_in}
 use Rattle.replay_spec.specs.Plain.{IsNameTable}
 use Rattle.plain_laws.proofs.GoodLines.{IsGoodLine, AreGoodLines, good_verb, good_lines}
 use Rattle.plain_laws.proofs.Tables.{has_before}

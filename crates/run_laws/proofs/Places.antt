@@ -12,13 +12,14 @@ use Rattle.file_spec.specs.declared.Compiled.TheVariants as Compiled
 use Rattle.file_spec.specs.Files.{compiled}
 use Rattle.world_spec.specs.declared.tasks.TaskCall.TheVariants as TaskCall
 use Rattle.world_spec.specs.declared.Call.TheVariants as Call
-use Rattle.script_spec.specs.declared.Verb.{Verb}
-use Rattle.script_spec.specs.declared.Verb.TheVariants as Verb
+use Rattle.verb_spec.specs.declared.Verb.{Verb}
+use Rattle.verb_spec.specs.declared.Verb.TheVariants as Verb
 use Rattle.script_spec.specs.Lines.{ScriptLine, word_in, verb_in}
 use Rattle.script_spec.specs.Tasks.{change_by, change_of, forked_name, is_exit, has_exit, task_names}
 use Rattle.replay_spec.specs.declared.Act.{Act}
 use Rattle.replay_spec.specs.declared.Act.TheVariants as Act
-use Rattle.replay_spec.specs.Calls.{pid_in, of_one, file_call}
+use Rattle.verb_spec.specs.Values.{pid_in}
+use Rattle.replay_spec.specs.Calls.{of_one, file_call}
 use Rattle.replay_spec.specs.Acts.{act_of_line, call_by, call_of_line}
 use Rattle.replay_spec.proofs.ReadCalls.{act_words}
 use Rattle.replay_spec.specs.Plain.{IsNameTable}

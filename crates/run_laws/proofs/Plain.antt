@@ -7,10 +7,11 @@ use Rattle.rules_spec.specs.declared.Verdict.{Verdict}
 use Rattle.world_spec.specs.declared.Entry.{Entry}
 use Rattle.world_spec.specs.Worlds.{World, world_first}
 use Rattle.world_spec.specs.Replays.{AreSteps, version_of, after_entry}
-use Rattle.script_spec.specs.declared.Verb.{Verb}
-use Rattle.script_spec.specs.declared.Verb.TheVariants as Verb
-use Rattle.script_spec.specs.declared.WordKind.TheVariants as WordKind
-use Rattle.script_spec.specs.Words.{kinds_of, is_file_name}
+use Rattle.verb_spec.specs.declared.Verb.{Verb}
+use Rattle.verb_spec.specs.declared.Verb.TheVariants as Verb
+use Rattle.verb_spec.specs.declared.WordKind.TheVariants as WordKind
+use Rattle.verb_spec.specs.Verbs.{kinds_of}
+use Rattle.verb_spec.specs.Words.{is_file_name}
 use Rattle.script_spec.specs.Lines.{ScriptLine, word_in, table_of}
 use Rattle.script_spec.specs.Tasks.{task_names}
 use Rattle.record_spec.specs.declared.AskedLine.{AskedLine}

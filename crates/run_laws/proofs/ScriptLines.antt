@@ -3,7 +3,7 @@ use Rattle.std.proofs.Common.{◌≡◌, ℕ, ◌+◌, ◌<◌, ◌≤◌, ◌�
 use Rattle.std.specs.Prelude.{cond}
 use Rattle.std.proofs.lemmas.Bool.{cases_Bool, leb-true, leb-false, eqb-true}
 use Rattle.std.proofs.lemmas.List.Sums.{sum_by-append}
-use Rattle.script_spec.specs.declared.Verb.TheVariants as Verb
+use Rattle.verb_spec.specs.declared.Verb.TheVariants as Verb
 use Rattle.script_spec.specs.Lines.{ScriptLine, verb_in}
 use Rattle.script_spec.specs.Tasks.{TaskChange, Forks, Exits, Awaits, Keeps, change_of, forked_name, is_fork, calls_by, task_names}
 use Rattle.live_table.specs.Lists.{Has, here, there}

@@ -2,7 +2,9 @@ ghost use Rattle.std.specs.Prelude.{◌≡◌, ◌++◌, map, codes, OnOk};
 ghost use Rattle.std.specs.List.{flat_map};
 ghost use Rattle.log_spec.specs.Words.{word, words};
 ghost use Rattle.log_spec.specs.Shown.{LabelAt, plain_words};
-ghost use Rattle.record_spec.specs.Entries.{path_text, cap_text as text_of_cap, task_verb as verb_of_task_call, tree_verb as verb_of_tree_call, call_verb as verb_of_call, rule_words, task_words, tree_words, verb_words, why_text as text_of_why, reply_words};
+ghost use Rattle.verb_spec.specs.Values.{path_text, cap_text as text_of_cap};
+ghost use Rattle.record_spec.specs.Entries.{task_verb as verb_of_task_call, tree_verb as verb_of_tree_call, rule_words, task_words, tree_words, verb_words, why_text as text_of_why, reply_words};
+ghost use Rattle.verb_spec.specs.Verbs.{call_verb as verb_of_call};
 ghost use Rattle.run_report.specs.Spelling.{words_by};
 
 use crate::spelling::Spelling;

@@ -1,7 +1,8 @@
 ghost use Rattle.std.specs.Prelude.{◌≡◌, [], ◌∷◌, ◌++◌, map, OnOk};
 ghost use Rattle.log_spec.specs.Audits.{outcome, selected_as};
 ghost use Rattle.log_spec.specs.Shown.{Logs, audit_lines};
-ghost use Rattle.record_spec.specs.Entries.{entry_head, call_verb as verb_of_call, check_line as check_text, reply_line as reply_text, entry_lines as lines_of_entry};
+ghost use Rattle.record_spec.specs.Entries.{entry_head, check_line as check_text, reply_line as reply_text, entry_lines as lines_of_entry};
+ghost use Rattle.verb_spec.specs.Verbs.{call_verb as verb_of_call};
 ghost use Rattle.run_report.specs.Spelling.{line_by, lines_spelled_by};
 
 use crate::calls::{call_verb, put_call, put_reply};

@@ -7,13 +7,14 @@ use Rattle.world_spec.specs.declared.Call.{Call}
 use Rattle.world_spec.specs.declared.Call.TheVariants as Call
 use Rattle.world_spec.specs.declared.tasks.TaskVerb.{TaskVerb}
 use Rattle.world_spec.specs.declared.tasks.TaskVerb.TheVariants as TaskVerb
-use Rattle.script_spec.specs.declared.CallVerb.{CallVerb}
-use Rattle.script_spec.specs.declared.CallVerb.TheVariants as CallVerb
+use Rattle.verb_spec.specs.declared.CallVerb.{CallVerb}
+use Rattle.verb_spec.specs.declared.CallVerb.TheVariants as CallVerb
 use Rattle.world_spec.specs.declared.tasks.TraceWay.{TraceWay}
 use Rattle.world_spec.specs.declared.tasks.TraceWay.TheVariants as TraceWay
 use Rattle.script_spec.specs.Lines.{ScriptLine}
 use Rattle.replay_spec.specs.declared.Act.TheVariants as Act
-use Rattle.replay_spec.specs.Calls.{traced, task_call, tree_call, made_call}
+use Rattle.replay_spec.specs.Calls.{traced, task_call, tree_call}
+use Rattle.verb_spec.specs.Verbs.{made_call}
 use Rattle.replay_spec.specs.Acts.{act_of_line}
 use Rattle.replay_spec.proofs.ReadCalls.{of_none_holds, of_one_holds, of_two_holds, act_words}
 use Rattle.smack_kernel.specs.Answers.{is_fork_call}

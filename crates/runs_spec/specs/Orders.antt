@@ -4,7 +4,7 @@ use Rattle.smack_base.specs.declared.ids.Pid.{Pid}
 use Rattle.script_spec.specs.Lines.{ScriptLine}
 use Rattle.script_spec.specs.Tasks.{TaskChange, Forks, Exits, Awaits, Keeps, change_of}
 use Rattle.record_spec.specs.declared.AskedWhat.TheVariants as AskedWhat
-use Rattle.replay_spec.specs.Calls.{pid_in}
+use Rattle.verb_spec.specs.Values.{pid_in}
 use Rattle.replay_spec.specs.Acts.{act_of_line}
 use Rattle.legal_spec.specs.Lines.{IsAskedOfLine}
 use Rattle.runs_spec.specs.Scripts.{Scripted, lines_by}

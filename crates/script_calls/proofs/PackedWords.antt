@@ -1,7 +1,7 @@
 use Rattle.std.proofs.Common.{◌≡◌, ℕ, List, [], ◌∷◌, refl}
 use Rattle.std.specs.List.{filter}
 use Rattle.text_spec.specs.Texts.{Placed}
-use Rattle.script_spec.specs.Words.{word_at}
+use Rattle.verb_spec.specs.Words.{word_at}
 use Rattle.script_text.specs.Lines.{has_bytes}
 use Rattle.script_calls.specs.Words.{there_first, there_behind}
 

@@ -2,8 +2,10 @@ ghost use Rattle.std.specs.Prelude.{◌≡◌, ◌≤◌, ◌<◌, length, posit
 ghost use Rattle.std.specs.Str.{bytes_eq};
 ghost use Rattle.script_spec.specs.Grammar.{most_script_tasks};
 ghost use Rattle.script_text.specs.Lines.{call_seen};
-ghost use Rattle.script_spec.specs.Words.{signal_of as signal_of_word, trace_way_of as way_of_word};
-ghost use Rattle.replay_spec.specs.Calls.{of_two, traced, modes_in as modes_of_word, path_in as path_of_word, pid_in as pid_of_word, task_call as task_call_of, tree_call as tree_call_of, made_call as made_call_of};
+ghost use Rattle.verb_spec.specs.Words.{signal_of as signal_of_word, trace_way_of as way_of_word};
+ghost use Rattle.replay_spec.specs.Calls.{of_two, traced, task_call as task_call_of, tree_call as tree_call_of};
+ghost use Rattle.verb_spec.specs.Values.{modes_in as modes_of_word, path_in as path_of_word, pid_in as pid_of_word};
+ghost use Rattle.verb_spec.specs.Verbs.{made_call as made_call_of};
 
 use crate::words::words_of;
 use label_table::Labels;

@@ -4,11 +4,14 @@ use Rattle.std.proofs.lemmas.Bool.{ne_eqb, le-leb}
 use Rattle.text_spec.specs.Texts.{TextLine, Placed, whole_lines}
 use Rattle.script_spec.specs.declared.Cause.{Cause}
 use Rattle.script_spec.specs.declared.Cause.TheVariants as Cause
-use Rattle.script_spec.specs.declared.Verb.{Verb}
+use Rattle.verb_spec.specs.declared.Verb.{Verb}
 use Rattle.script_spec.specs.declared.ScriptFault.{ScriptFault}
 use Rattle.script_spec.specs.declared.ScriptFault.TheVariants as ScriptFault
 use Rattle.script_spec.specs.declared.What.TheVariants as What
-use Rattle.script_spec.specs.Words.{verb_of, kinds_of, bad_word, has_deep_path, is_task_name, is_unbuilt_verb}
+use Rattle.verb_spec.specs.Verbs.{verb_of, kinds_of, is_unbuilt_verb}
+use Rattle.verb_spec.specs.Kinds.{bad_word}
+use Rattle.verb_spec.specs.GONE.{has_deep_path}
+use Rattle.verb_spec.specs.Words.{is_task_name}
 use Rattle.script_spec.specs.Lines.{ScriptLine}
 use Rattle.script_spec.specs.Tasks.{Tasks, tasks_of}
 use Rattle.script_spec.specs.Causes.{first_cause, cause_if, names_unbuilt_file, task_causes, verb_cause, behind_task, line_cause}

@@ -4,7 +4,7 @@ use Rattle.text_spec.specs.Texts.{TextLine, lines_from, whole_line, whole_lines}
 use Rattle.script_spec.specs.declared.What.TheVariants as What
 use Rattle.script_spec.specs.declared.ScriptFault.{ScriptFault}
 use Rattle.script_spec.specs.declared.ScriptFault.TheVariants as ScriptFault
-use Rattle.script_spec.specs.Words.{word_at}
+use Rattle.verb_spec.specs.Words.{word_at}
 use Rattle.script_spec.specs.Lines.{ScriptLine}
 use Rattle.script_spec.specs.Tasks.{Tasks, tasks_of, pid_of}
 use Rattle.script_spec.specs.Causes.{line_cause}

@@ -4,7 +4,7 @@ use Rattle.script_spec.specs.declared.Cause.TheVariants as Cause
 use Rattle.script_spec.specs.declared.What.TheVariants as What
 use Rattle.script_spec.specs.declared.ScriptFault.{ScriptFault}
 use Rattle.script_spec.specs.declared.ScriptFault.TheVariants as ScriptFault
-use Rattle.script_spec.specs.Words.{word_at}
+use Rattle.verb_spec.specs.Words.{word_at}
 use Rattle.script_spec.specs.Lines.{ScriptLine, word_in, table_of}
 use Rattle.script_spec.specs.Tasks.{task_names}
 use Rattle.script_spec.specs.Grammar.{parse}

@@ -1,8 +1,8 @@
 -- What a line that was run leaves of orderly lines, and why a worker stops at one that is in no script.
 use Rattle.std.proofs.Common.{◌≡◌, ⊎_elim, ℕ, ◌+◌, ◌<◌, ◌≤◌, List, [], ◌∷◌, ◌++◌, length, Bool, false, Option, Some, None, sym, refl, ap, ◌∙◌, subst}
 use Rattle.smack_base.specs.declared.ids.Pid.{Pid}
-use Rattle.script_spec.specs.declared.Verb.{Verb}
-use Rattle.script_spec.specs.declared.Verb.TheVariants as Verb
+use Rattle.verb_spec.specs.declared.Verb.{Verb}
+use Rattle.verb_spec.specs.declared.Verb.TheVariants as Verb
 use Rattle.script_spec.specs.Lines.{ScriptLine, verb_in}
 use Rattle.script_spec.specs.Tasks.{change_by}
 use Rattle.record_spec.specs.declared.AskedLine.{AskedLine}

@@ -10,10 +10,10 @@ use Rattle.std.proofs.Math.Seq.{take-suc}
 use Rattle.std.proofs.Math.ListN.{get_or-map}
 use Rattle.live_table.specs.Lists.{Has, here, there}
 use Rattle.live_table.proofs.Lists.{long_map}
-use Rattle.script_spec.specs.declared.CallVerb.{CallVerb}
-use Rattle.script_spec.specs.declared.Verb.{Verb}
-use Rattle.script_spec.specs.declared.Verb.TheVariants as Verb
-use Rattle.script_spec.specs.Words.{call_verb_of, verb_of}
+use Rattle.verb_spec.specs.declared.CallVerb.{CallVerb}
+use Rattle.verb_spec.specs.declared.Verb.{Verb}
+use Rattle.verb_spec.specs.declared.Verb.TheVariants as Verb
+use Rattle.verb_spec.specs.Verbs.{call_verb_of, verb_of}
 use Rattle.script_spec.specs.Lines.{ScriptLine, word_in, verb_in}
 use Rattle.script_text.specs.Lines.{call_seen}
 use Rattle.script_text.specs.declared.line.Line.{Line}

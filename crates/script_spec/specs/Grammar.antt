@@ -1,12 +1,12 @@
 use Rattle.std.specs.Prelude.{ℕ, ◌+◌, ◌-◌, Bool, true, false, ◌||◌, ◌==◌, if◌then◌else◌, List, [], ◌∷◌, ◌++◌, Option, Some, None, Result, Ok, Err, length, take, drop, nat_lt, nat_le}
 use Rattle.std.specs.Option.{option_map}
 use Rattle.text_spec.specs.Texts.{Placed, TextLine, lines_from, words_from, whole_line, whole_lines, is_space}
-use Rattle.script_spec.specs.declared.Verb.{Verb}
-use Rattle.script_spec.specs.declared.Verb.TheVariants as Verb
 use Rattle.script_spec.specs.declared.What.TheVariants as What
 use Rattle.script_spec.specs.declared.ScriptFault.{ScriptFault}
 use Rattle.script_spec.specs.declared.ScriptFault.TheVariants as ScriptFault
-use Rattle.script_spec.specs.Words.{verb_of, number_of, word_at}
+use Rattle.verb_spec.specs.Words.{number_of, word_at}
+use Rattle.verb_spec.specs.Kinds.{lines_word}
+use Rattle.verb_spec.specs.Verbs.{verb_of, kinds_by}
 use Rattle.script_spec.specs.Lines.{ScriptLine, table_of, rows_in}
 use Rattle.script_spec.specs.Tasks.{Tasks, tasks_of, task_names, pid_of}
 use Rattle.script_spec.specs.Causes.{line_cause}
@@ -52,14 +52,14 @@ abbrev pub or_zero : Option ℕ → ℕ
 or_zero None = 0
 or_zero (Some n) = n
 
-abbrev pub text_count_of : Option Verb → Placed → ℕ
-text_count_of (Some Verb.Write) count = or_zero (number_of count.bytes)
-text_count_of verb count = 0
+abbrev pub number_at : Option (List ℕ) → ℕ
+number_at None = 0
+number_at (Some word) = or_zero (number_of word)
 
 -- how many of the lines behind a line of these words are its text
 abbrev pub text_count : List Placed → ℕ
-text_count (task ∷ verb ∷ file ∷ count ∷ []) = text_count_of (verb_of verb.bytes) count
-text_count words = 0
+text_count (task ∷ verb ∷ ws) = number_at (lines_word (kinds_by (verb_of verb.bytes) ws) ws)
+text_count ws = 0
 
 -- a line that is neither skipped nor text: its number, its words, the place behind it, and the lines behind it
 pub record Item : Type 0 where

@@ -1,8 +1,8 @@
 use Rattle.std.specs.Prelude.{ℕ, Bool, true, false, ◌&&◌, not, ◌==◌, if◌then◌else◌, List, [], ◌∷◌, Option, Some, None, length, map, reverse, codes}
 use Rattle.std.specs.List.{flat_map, list_any, filter, count_by}
 use Rattle.text_spec.specs.Names.{place_of, has_name}
-use Rattle.script_spec.specs.declared.Verb.{Verb}
-use Rattle.script_spec.specs.declared.Verb.TheVariants as Verb
+use Rattle.verb_spec.specs.declared.Verb.{Verb}
+use Rattle.verb_spec.specs.declared.Verb.TheVariants as Verb
 use Rattle.script_spec.specs.Lines.{ScriptLine, verb_in, word_in}
 
 -- what a line does to the tasks of a script: it forks a task of this name, it is the exit of its own task, it waits for
@@ -14,22 +14,17 @@ pub data TaskChange : Type 0 where
   Keeps : TaskChange
 
 abbrev pub change_by : Option Verb → ScriptLine → TaskChange
-change_by None l = Keeps
-change_by (Some Verb.Write) l = Keeps
-change_by (Some Verb.Ask) l = Keeps
 change_by (Some Verb.Wait) l = Awaits (word_in 1 l)
 change_by (Some Verb.Fork) l = Forks (word_in 1 l)
 change_by (Some Verb.Exit) l = Exits
-change_by (Some (Verb.Call verb)) l = Keeps
+change_by verb l = Keeps
 
 abbrev pub change_of : ScriptLine → TaskChange
 change_of l = change_by (verb_in l) l
 
 abbrev pub forked_name : TaskChange → List (List ℕ)
 forked_name (Forks name) = name ∷ []
-forked_name Exits = []
-forked_name (Awaits name) = []
-forked_name Keeps = []
+forked_name change = []
 
 -- the names of tasks by pid: that of the first task, and those that these lines fork, in their order
 abbrev pub task_names : List ScriptLine → List (List ℕ)
@@ -40,20 +35,16 @@ abbrev pub calls_by : List ScriptLine → ℕ → ℕ
 calls_by above task = count_by (λ l. l.task == task) above
 
 abbrev pub is_exit : TaskChange → Bool
-is_exit (Forks name) = false
 is_exit Exits = true
-is_exit (Awaits name) = false
-is_exit Keeps = false
+is_exit change = false
 
 -- one of these calls is the exit of a task
 abbrev pub has_exit : List ScriptLine → ℕ → Bool
 has_exit above task = list_any (λ l. is_exit (change_of l) && (l.task == task)) above
 
 abbrev pub is_wait_for : List (List ℕ) → ℕ → TaskChange → Bool
-is_wait_for names task (Forks name) = false
-is_wait_for names task Exits = false
 is_wait_for names task (Awaits name) = place_of names name == task
-is_wait_for names task Keeps = false
+is_wait_for names task change = false
 
 -- one of these calls waits for a task
 abbrev pub has_wait : List ScriptLine → ℕ → Bool
@@ -61,9 +52,7 @@ has_wait above task = list_any (λ l. is_wait_for (task_names above) task (chang
 
 abbrev pub is_fork : TaskChange → Bool
 is_fork (Forks name) = true
-is_fork Exits = false
-is_fork (Awaits name) = false
-is_fork Keeps = false
+is_fork change = false
 
 -- the tasks that made the tasks .., 3, 2, 1, that of the youngest first
 abbrev pub parents_in : List ScriptLine → List ℕ

@@ -1,64 +1,12 @@
-//! What scripts mean: the verbs and the kinds of their words, and the grammar. Plain data; the
-//! definitions stand in `specs/`.
+//! What scripts mean: their lines, their tasks, and the grammar. Plain data; the definitions stand in
+//! `specs/`.
 //!
-//! `Words` has the tables of verbs and what each kind of word is. `Lines` says what a call of a
-//! script is, with its labels and its rows of a journal. `Tasks` reads off the calls so far which
+//! `Lines` says what a call of a script is, with its labels and its rows of a journal, by the kinds of
+//! its words. `Tasks` reads off the calls so far which
 //! tasks there are, which of them are live, and which may be waited for. `Causes` says what is wrong
 //! with a line. `Grammar` says which lists of bytes are a script, and for any other list which line
 //! is the first bad one, and why.
 #![tactic(auto)]
-
-use world_spec::{TaskVerb, TreeVerb};
-
-/// The verbs of object calls, by families, as the calls come; `fork` and `exit` are not among them.
-#[derive(Clone, Copy, PartialEq, Eq)]
-pub enum CallVerb {
-    /// A call on tasks.
-    Task(TaskVerb),
-    /// A call on the file tree.
-    Tree(TreeVerb),
-}
-
-/// What a line of a script does: its second word. What changes the tasks of a script has a verb of
-/// its own; all else that makes an object call is a `Call`.
-#[derive(Clone, Copy, PartialEq, Eq)]
-pub enum Verb {
-    /// `write FILE N`: writes the next N lines to a smackfs file.
-    Write,
-    /// `ask LABEL LABEL MODES`: asks whether a subject has modes on an object.
-    Ask,
-    /// `wait NAME`: waits for the caller's latest child; no object call.
-    Wait,
-    /// `fork NAME`: makes a task with a copy of the caller's credentials.
-    Fork,
-    /// `exit`: ends the calling task.
-    Exit,
-    /// Another object call.
-    Call(CallVerb),
-}
-
-/// What a word behind a verb may be. A kind may look at the words before it.
-#[derive(Clone, Copy, PartialEq, Eq)]
-pub enum WordKind {
-    /// A label.
-    Label,
-    /// A set of access modes.
-    Modes,
-    /// The name of a smackfs file.
-    File,
-    /// A decimal number up to 4,294,967,295.
-    Number,
-    /// A path.
-    Path,
-    /// The name of a capability.
-    Capability,
-    /// The name of a task: 1 to 16 letters, digits and underscores.
-    TaskName,
-    /// The number of a signal, from 1 to 31.
-    Signal,
-    /// The way of the verb before it: behind `trace`, `read` or `attach`.
-    Way,
-}
 
 /// Why a line is not in the grammar of scripts, the first that applies: `Word { k: 1 }`, `Verb`,
 /// `NotBuilt`, `Words`, `Word`, `Text`, `Task`, `Name`, `Wait`; a path that is not built comes behind

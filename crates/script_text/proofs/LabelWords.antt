@@ -8,9 +8,9 @@ use Rattle.text_spec.specs.Texts.{Placed}
 use Rattle.text_spec.specs.Names.{with_name, with_names}
 use Rattle.rule_text.specs.declared.part.Part.{Part}
 use Rattle.rule_text.specs.Parts.{placed}
-use Rattle.script_spec.specs.declared.WordKind.{WordKind}
-use Rattle.script_spec.specs.declared.WordKind.TheVariants as WordKind
-use Rattle.script_spec.specs.Words.{bad_word, is_of_kind}
+use Rattle.verb_spec.specs.declared.WordKind.{WordKind}
+use Rattle.verb_spec.specs.declared.WordKind.TheVariants as WordKind
+use Rattle.verb_spec.specs.Kinds.{bad_word, is_of_kind}
 use Rattle.script_spec.specs.Lines.{label_words, stands_for_label}
 use Rattle.script_text.specs.Spelled.{AreLabels}
 use Rattle.script_text.proofs.WriteNames.{with_names-longer}

@@ -7,8 +7,11 @@ use Rattle.rule_text.specs.declared.part.Part.{Part}
 use Rattle.rule_text.specs.Parts.{placed}
 use Rattle.script_spec.specs.declared.Cause.{Cause}
 use Rattle.script_spec.specs.declared.Cause.TheVariants as Cause
-use Rattle.script_spec.specs.declared.Verb.{Verb}
-use Rattle.script_spec.specs.Words.{verb_of, kinds_of, bad_word, has_deep_path, is_task_name, word_at}
+use Rattle.verb_spec.specs.declared.Verb.{Verb}
+use Rattle.verb_spec.specs.Verbs.{verb_of, kinds_of}
+use Rattle.verb_spec.specs.Kinds.{bad_word}
+use Rattle.verb_spec.specs.GONE.{has_deep_path}
+use Rattle.verb_spec.specs.Words.{is_task_name, word_at}
 use Rattle.script_spec.specs.Tasks.{Tasks, is_live_name, pid_of}
 use Rattle.script_spec.specs.Causes.{cause_if, first_cause, names_unbuilt_file, is_name_good, is_wait_good, words_cause, behind_task, line_cause}
 use Rattle.script_text.specs.Spelled.{HasVerb}

@@ -1,6 +1,6 @@
 use Rattle.std.proofs.Common.{◌≡◌, ◌≤◌, ◌+◌, ◌-◌, ◌*◌, ◌<◌, ℕ, List, [], ◌∷◌, arith, drop, get_or, sym, ◌∙◌, ap, length}
 use Rattle.std.proofs.lemmas.List.{drop_more}
-use Rattle.script_spec.specs.Words.{value_from}
+use Rattle.verb_spec.specs.Words.{value_from}
 
 -- more digits make no smaller number
 pub value_from-le : (n : ℕ) (bs : List ℕ) → n ≤ value_from n bs

@@ -7,9 +7,10 @@ use Rattle.text_spec.specs.Texts.{Placed, is_space, whole_lines}
 use Rattle.text_spec.specs.Names.{place_of}
 use Rattle.rule_text.specs.declared.part.Part.{Part}
 use Rattle.rule_text.specs.Parts.{placed, lines_of, part_words}
-use Rattle.script_spec.specs.declared.Verb.{Verb}
-use Rattle.script_spec.specs.declared.Verb.TheVariants as Verb
-use Rattle.script_spec.specs.Words.{verb_of, kinds_of, word_at}
+use Rattle.verb_spec.specs.declared.Verb.{Verb}
+use Rattle.verb_spec.specs.declared.Verb.TheVariants as Verb
+use Rattle.verb_spec.specs.Verbs.{verb_of, kinds_of}
+use Rattle.verb_spec.specs.Words.{word_at}
 use Rattle.script_spec.specs.Lines.{ScriptLine, verb_in, label_words}
 use Rattle.script_spec.specs.Tasks.{Tasks, pid_of, is_live_name, is_gone, is_there, is_pid, latest_child, change_of, change_by}
 use Rattle.script_spec.specs.Causes.{is_wait_good}

@@ -4,8 +4,8 @@ use Rattle.std.proofs.lemmas.List.{take_more, drop_more, map-append, length-map,
 use Rattle.text_spec.specs.Texts.{Placed}
 use Rattle.rule_text.specs.declared.part.Part.{Part}
 use Rattle.rule_text.specs.Parts.{placed}
-use Rattle.script_spec.specs.declared.WordKind.{WordKind}
-use Rattle.script_spec.specs.Words.{bad_word, is_of_kind}
+use Rattle.verb_spec.specs.declared.WordKind.{WordKind}
+use Rattle.verb_spec.specs.Kinds.{bad_word, is_of_kind}
 
 -- the first bad word from a place on
 abbrev pub bad_from : List WordKind → List Part → ℕ → Option ℕ

@@ -7,7 +7,7 @@ use Rattle.std.proofs.Common.{◌∙◌}
 use Rattle.std.proofs.lemmas.List.{length-map}
 use Rattle.rule_text.specs.declared.part.Part.{Part}
 use Rattle.rule_text.specs.Parts.{placed}
-use Rattle.script_spec.specs.Words.{word_at}
+use Rattle.verb_spec.specs.Words.{word_at}
 use Rattle.script_text.specs.declared.spelled.Spelled.{Spelled}
 use Rattle.script_text.specs.Lines.{call_seen}
 use Rattle.script_text.specs.Spelled.{spelled_seen}

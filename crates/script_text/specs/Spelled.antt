@@ -3,8 +3,9 @@ use Rattle.std.specs.List.{list_all}
 use Rattle.smack_base.specs.Labels.{is_label}
 use Rattle.text_spec.specs.Texts.{Placed}
 use Rattle.rule_text.specs.Parts.{placed}
-use Rattle.script_spec.specs.declared.Verb.{Verb}
-use Rattle.script_spec.specs.Words.{verb_of, kinds_of, word_at}
+use Rattle.verb_spec.specs.declared.Verb.{Verb}
+use Rattle.verb_spec.specs.Verbs.{verb_of, kinds_of}
+use Rattle.verb_spec.specs.Words.{word_at}
 use Rattle.script_spec.specs.Lines.{ScriptLine, verb_in, label_words}
 use Rattle.script_spec.specs.Tasks.{Tasks}
 use Rattle.script_spec.specs.Causes.{line_cause}

@@ -5,7 +5,7 @@ use Rattle.file_spec.specs.declared.SmackFile.TheVariants as SmackFile
 use Rattle.file_spec.specs.Writes.{labels_named, names_of_text, rows_of_text}
 use Rattle.smackfs.specs.declared.named_op.NamedOp.{NamedOp}
 use Rattle.smackfs.specs.Named.{named_write, HasGoodNames}
-use Rattle.script_spec.specs.declared.Verb.{Verb}
+use Rattle.verb_spec.specs.declared.Verb.{Verb}
 use Rattle.script_spec.specs.Lines.{ScriptLine, text_labels, line_rows}
 use Rattle.script_text.specs.declared.texts.WrittenText.{WrittenText}
 

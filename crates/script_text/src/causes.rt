@@ -1,6 +1,6 @@
 ghost use Rattle.std.specs.Prelude.{◌≡◌, ◌<◌, ◌≤◌, length, map, drop, Some, All, MatchResult};
 ghost use Rattle.rule_text.specs.Parts.{FitsPlaces, placed};
-ghost use Rattle.script_spec.specs.Words.{word_at};
+ghost use Rattle.verb_spec.specs.Words.{word_at};
 ghost use Rattle.script_spec.specs.Causes.{names_unbuilt_file as name_unbuilt_file, is_task_name_good as is_task_name_good_of, is_name_good as is_name_good_of, is_wait_good as is_wait_good_of, unless_verb as unless_verb_of, words_cause as words_cause_of, line_cause};
 ghost use Rattle.script_text.specs.TaskTables.{tasks_seen};
 ghost use Rattle.script_text.specs.Spelled.{HasVerb};

@@ -1,5 +1,9 @@
 ghost use Rattle.std.specs.Prelude.{◌≡◌, ◌≤◌, length};
-ghost use Rattle.script_spec.specs.Words.{plain_verb_of as plain_verb_of_name, task_verb_of as task_verb_of_name, tree_verb_of as tree_verb_of_name, call_verb_of as call_verb_of_name, verb_of as verb_of_name, kinds_of as kinds_of_verb, call_kinds as kinds_of_call_verb, task_kinds as kinds_of_task_verb, tree_kinds as kinds_of_tree_verb, is_one_of, unbuilt_task_verbs, unbuilt_tree_verbs, unbuilt_open_verbs, unbuilt_socket_verbs, unbuilt_message_verbs, unbuilt_semaphore_verbs, unbuilt_segment_verbs, unbuilt_host_verbs, unbuilt_mount_verbs, is_unbuilt_verb as is_unbuilt_name};
+ghost use Rattle.verb_spec.specs.Verbs.{plain_verb_of as plain_verb_of_name, call_verb_of as call_verb_of_name, verb_of as verb_of_name, kinds_of as kinds_of_verb, call_kinds as kinds_of_call_verb, is_unbuilt_verb as is_unbuilt_name};
+ghost use Rattle.verb_spec.specs.TaskVerbs.{task_verb_of as task_verb_of_name, task_kinds as kinds_of_task_verb, unbuilt_task_verbs};
+ghost use Rattle.verb_spec.specs.TreeVerbs.{tree_verb_of as tree_verb_of_name, tree_kinds as kinds_of_tree_verb, unbuilt_tree_verbs};
+ghost use Rattle.verb_spec.specs.Words.{is_one_of};
+ghost use Rattle.verb_spec.specs.GONE.{unbuilt_open_verbs, unbuilt_socket_verbs, unbuilt_message_verbs, unbuilt_semaphore_verbs, unbuilt_segment_verbs, unbuilt_host_verbs, unbuilt_mount_verbs};
 
 use script_spec::{CallVerb, Verb, WordKind};
 use world_spec::{TaskVerb, TreeVerb};

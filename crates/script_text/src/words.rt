@@ -4,7 +4,9 @@ ghost use Rattle.std.specs.Str.{bytes_eq};
 ghost use Rattle.smack_base.specs.Paths.{is_slash as is_slash_byte, is_name_byte};
 ghost use Rattle.text_spec.specs.Texts.{is_space};
 ghost use Rattle.rule_text.specs.Parts.{FitsPlaces, placed, part_words};
-ghost use Rattle.script_spec.specs.Words.{cap_of as cap_of_name, is_deep as is_deep_word, is_unbuilt_file as is_unbuilt_file_name, is_file_name as is_word_file_name, number_of as number_of_word, signal_of as signal_of_word, trace_way_of as trace_way_of_name, is_decimal as is_decimal_word, value_from, is_digit as is_digit_byte, is_task_byte as is_byte_of_task, is_task_name as is_name_of_task, is_way as is_way_of_verb, is_of_kind as is_word_of_kind, is_deep_path as is_deep_word_of, has_deep_path as have_deep_path, bad_word as bad_word_of, word_at};
+ghost use Rattle.verb_spec.specs.Words.{cap_of as cap_of_name, is_deep as is_deep_word, is_file_name as is_word_file_name, number_of as number_of_word, signal_of as signal_of_word, trace_way_of as trace_way_of_name, is_decimal as is_decimal_word, value_from, is_digit as is_digit_byte, is_task_byte as is_byte_of_task, is_task_name as is_name_of_task, word_at};
+ghost use Rattle.verb_spec.specs.GONE.{is_unbuilt_file as is_unbuilt_file_name, is_way as is_way_of_verb, is_deep_path as is_deep_word_of, has_deep_path as have_deep_path};
+ghost use Rattle.verb_spec.specs.Kinds.{is_of_kind as is_word_of_kind, bad_word as bad_word_of};
 ghost use Rattle.script_spec.specs.Grammar.{text_count as text_count_of_words};
 
 use crate::verbs::verb_of;

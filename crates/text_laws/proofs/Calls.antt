@@ -5,14 +5,16 @@ use Rattle.smack_base.specs.declared.cap.Cap.{Cap}
 use Rattle.smack_base.specs.declared.ids.LabelId.{LabelId}
 use Rattle.smack_base.specs.declared.rule_op.Pair.{Pair}
 use Rattle.world_spec.specs.declared.tasks.TraceWay.TheVariants as TraceWay
-use Rattle.script_spec.specs.Words.{absent, cap_of}
+use Rattle.verb_spec.specs.Words.{absent, cap_of}
 use Rattle.script_spec.specs.Lines.{ScriptLine}
 use Rattle.world_spec.specs.declared.tasks.TaskCall.TheVariants as TaskCall
 use Rattle.world_spec.specs.declared.trees.TreeCall.TheVariants as TreeCall
 use Rattle.world_spec.specs.declared.Call.{Call}
 use Rattle.log_spec.specs.Shown.{LabelAt, spelled}
 use Rattle.log_spec.specs.Audits.{is_word}
-use Rattle.record_spec.specs.Entries.{cap_text, rule_words, call_verb, call_words, verb_words}
+use Rattle.verb_spec.specs.Values.{cap_text}
+use Rattle.record_spec.specs.Entries.{rule_words, verb_words}
+use Rattle.verb_spec.specs.Verbs.{call_verb, call_words}
 use Rattle.replay_spec.specs.declared.Act.TheVariants as Act
 use Rattle.replay_spec.specs.Calls.{of_one, of_two, traced}
 use Rattle.replay_spec.specs.Acts.{call_by, call_of_line}

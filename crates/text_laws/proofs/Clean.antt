@@ -3,7 +3,7 @@ use Rattle.std.specs.List.{AllByRecursion, list_all}
 use Rattle.std.proofs.lemmas.Bool.{and_parts, and_from, leb-true, le-leb, eqb-true}
 use Rattle.smack_base.specs.Labels.{is_label}
 use Rattle.smack_base.specs.Paths.{is_name_byte}
-use Rattle.script_spec.specs.Words.{is_digit, is_task_byte, is_task_name}
+use Rattle.verb_spec.specs.Words.{is_digit, is_task_byte, is_task_name}
 use Rattle.log_spec.specs.Audits.{is_word}
 use Rattle.log_spec.specs.Shown.{plain_words, spelled}
 use Rattle.log_spec.proofs.Spelling.{plain_spelled}

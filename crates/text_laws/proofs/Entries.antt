@@ -6,7 +6,8 @@ use Rattle.log_spec.specs.declared.Action.{Action}
 use Rattle.log_spec.specs.Numerals.{numeral}
 use Rattle.log_spec.specs.Words.{call_number, version_word}
 use Rattle.log_spec.specs.Shown.{PrintedLine, spelled, spell_line, logged_as, audit_lines}
-use Rattle.record_spec.specs.Entries.{call_verb, verb_words, entry_head, check_line, reply_line, entry_lines}
+use Rattle.verb_spec.specs.Verbs.{call_verb}
+use Rattle.record_spec.specs.Entries.{verb_words, entry_head, check_line, reply_line, entry_lines}
 use Rattle.record_spec.specs.Show.{spelled_text}
 use Rattle.text_spec.specs.Names.{IsLabelTable}
 use Rattle.replay_spec.specs.Plain.{IsNameTable, IsPlainVerdict, IsPlainEntry}

@@ -4,7 +4,7 @@ use Rattle.rules_spec.specs.declared.Verdict.{Verdict}
 use Rattle.world_spec.specs.declared.Entry.{Entry}
 use Rattle.log_spec.specs.declared.Action.{Action}
 use Rattle.log_spec.specs.Audits.{is_word, IsAudited, audited}
-use Rattle.record_spec.specs.Entries.{call_verb}
+use Rattle.verb_spec.specs.Verbs.{call_verb}
 use Rattle.text_spec.specs.Names.{IsLabelTable}
 use Rattle.replay_spec.specs.Plain.{IsNameTable, IsPlainVerdict, IsPlainEntry}
 use Rattle.replay_spec.specs.Laws.{HasReadLog, LogIsRead}

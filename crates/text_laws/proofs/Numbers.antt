@@ -1,7 +1,7 @@
 use Rattle.std.proofs.Common.{◌≡◌, ◌<◌, ◌+◌, ◌-◌, ◌*◌, ℕ, zero, suc, Bool, true, false, ◌&&◌, not, cond, nat_le, nat_lt, List, [], ◌∷◌, ◌++◌, Option, Some, None, codes, refl, sym, ap, ◌∙◌, append_assoc, arith, subst}
 use Rattle.std.specs.List.{list_all}
 use Rattle.std.proofs.lemmas.Bool.{and_parts, and_from, lt-ltb, ltb-true, ne_eqb}
-use Rattle.script_spec.specs.Words.{is_digit, value_from, has_zero_in_front, is_decimal, number_of, if_signal, signal_of}
+use Rattle.verb_spec.specs.Words.{is_digit, value_from, has_zero_in_front, is_decimal, number_of, if_signal, signal_of}
 use Rattle.log_spec.specs.Numerals.{numeral}
 use Rattle.log_spec.specs.Words.{call_number, version_word}
 use Rattle.log_spec.proofs.Numerals.{value_from as value_of_digits, numeral_read, numeral_injective, numeral_digits, numeral_leads, numeral_of_zero}

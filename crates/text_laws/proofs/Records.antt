@@ -3,7 +3,7 @@ use Rattle.std.specs.List.{AllByRecursion}
 use Rattle.std.proofs.lemmas.List.{append_cancel_left}
 use Rattle.rules_spec.specs.declared.Batch.{Batch}
 use Rattle.rules_spec.specs.declared.Verdict.{Verdict}
-use Rattle.script_spec.specs.Words.{is_task_name}
+use Rattle.verb_spec.specs.Words.{is_task_name}
 use Rattle.world_spec.specs.Replays.{version_of}
 use Rattle.log_spec.specs.declared.Action.{Action}
 use Rattle.log_spec.specs.Numerals.{numeral}

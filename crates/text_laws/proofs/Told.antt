@@ -6,9 +6,9 @@ use Rattle.smack_base.specs.declared.ids.LabelId.{LabelId}
 use Rattle.smack_base.specs.declared.ids.Pid.{Pid}
 use Rattle.smack_base.specs.Labels.{is_label}
 use Rattle.text_spec.specs.Names.{IsLabelTable, place_of, id_of}
-use Rattle.script_spec.specs.Words.{is_task_name}
+use Rattle.verb_spec.specs.Words.{is_task_name}
 use Rattle.log_spec.specs.Words.{name_at, task_name}
-use Rattle.replay_spec.specs.Calls.{pid_in}
+use Rattle.verb_spec.specs.Values.{pid_in}
 use Rattle.replay_spec.specs.Plain.{IsNameTable, HasId, HasPid}
 use Rattle.text_laws.proofs.Clean.{is_clean, label_clean, task_name_clean}
 

@@ -1,7 +1,7 @@
 use Rattle.std.proofs.Common.{◌≡◌, ◌++◌, take}
 use Rattle.log_spec.specs.Audits.{selected_as}
 use Rattle.log_spec.specs.Shown.{audit_lines}
-use Rattle.record_spec.specs.Entries.{call_verb}
+use Rattle.verb_spec.specs.Verbs.{call_verb}
 use Rattle.run_report.specs.Spelling.{lines_spelled_by}
 use Rattle.run_report.proofs.entries.logged_lines.Given as goal
 

@@ -1,7 +1,7 @@
 use Rattle.std.proofs.Common.{◌≡◌, drop}
 use Rattle.std.specs.Prelude.{map}
 use Rattle.rule_text.specs.Parts.{placed}
-use Rattle.script_spec.specs.Words.{has_deep_path}
+use Rattle.verb_spec.specs.GONE.{has_deep_path}
 use Rattle.script_text.proofs.words.has_deep_path.Given as goal
 
 abbrev pub invariant-loop-i : goal.invariant-loop-i

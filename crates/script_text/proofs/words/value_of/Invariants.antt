@@ -1,5 +1,5 @@
 use Rattle.std.proofs.Common.{◌≡◌, drop}
-use Rattle.script_spec.specs.Words.{value_from}
+use Rattle.verb_spec.specs.Words.{value_from}
 use Rattle.script_text.proofs.words.value_of.Given as goal
 
 abbrev pub invariant-loop-b : goal.invariant-loop-b
