@@ -4,7 +4,6 @@ use Rattle.smack_base.specs.Modes.{is_modes}
 use Rattle.smack_base.specs.Paths.{path_of}
 use Rattle.text_spec.specs.Texts.{Placed}
 use Rattle.verb_spec.specs.declared.WordKind.{WordKind}
-use Rattle.verb_spec.specs.declared.WordKind.TheVariants as WordKind
 use Rattle.verb_spec.specs.Words.{number_of, signal_of, cap_of, trace_way_of, is_task_name, is_file_name}
 
 -- whether a word is of a kind

@@ -5,14 +5,10 @@ use Rattle.std.specs.Str.{bytes_eq}
 use Rattle.smack_base.specs.declared.rule_op.Pair.{Pair}
 use Rattle.text_spec.specs.Texts.{Placed}
 use Rattle.world_spec.specs.declared.tasks.TaskVerb.{TaskVerb}
-use Rattle.world_spec.specs.declared.tasks.TaskVerb.TheVariants as TaskVerb
 use Rattle.world_spec.specs.declared.tasks.TraceWay.TheVariants as TraceWay
 use Rattle.world_spec.specs.declared.tasks.TaskCall.{TaskCall}
-use Rattle.world_spec.specs.declared.tasks.TaskCall.TheVariants as TaskCall
 use Rattle.verb_spec.specs.declared.WordKind.{WordKind}
-use Rattle.verb_spec.specs.declared.WordKind.TheVariants as WordKind
 use Rattle.verb_spec.specs.declared.Value.{Value}
-use Rattle.verb_spec.specs.declared.Value.TheVariants as Value
 use Rattle.verb_spec.specs.Values.{Spoken, says}
 
 -- the verbs of calls on tasks by name

@@ -3,13 +3,9 @@ use Rattle.std.specs.Map.{lookup}
 use Rattle.std.specs.Str.{bytes_eq}
 use Rattle.text_spec.specs.Texts.{Placed}
 use Rattle.world_spec.specs.declared.trees.TreeVerb.{TreeVerb}
-use Rattle.world_spec.specs.declared.trees.TreeVerb.TheVariants as TreeVerb
 use Rattle.world_spec.specs.declared.trees.TreeCall.{TreeCall}
-use Rattle.world_spec.specs.declared.trees.TreeCall.TheVariants as TreeCall
 use Rattle.verb_spec.specs.declared.WordKind.{WordKind}
-use Rattle.verb_spec.specs.declared.WordKind.TheVariants as WordKind
 use Rattle.verb_spec.specs.declared.Value.{Value}
-use Rattle.verb_spec.specs.declared.Value.TheVariants as Value
 use Rattle.verb_spec.specs.Values.{Spoken, says}
 
 -- the verbs of calls on the file tree by name

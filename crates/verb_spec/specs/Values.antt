@@ -3,7 +3,6 @@ use Rattle.std.specs.List.{flat_map}
 use Rattle.std.specs.Option.{option_map}
 use Rattle.std.specs.Result.{result_ok}
 use Rattle.smack_base.specs.declared.cap.Cap.{Cap}
-use Rattle.smack_base.specs.declared.cap.Cap.TheVariants as Cap
 use Rattle.smack_base.specs.declared.ids.Pid.{Pid}
 use Rattle.smack_base.specs.declared.modes.Modes.{Modes}
 use Rattle.smack_base.specs.Modes.{modes_of, is_modes, letters_of}
@@ -13,11 +12,8 @@ use Rattle.text_spec.specs.Names.{place_of, has_name, id_of}
 use Rattle.log_spec.specs.Numerals.{numeral}
 use Rattle.log_spec.specs.Shown.{Shown, Plain, LabelAt, NameOf}
 use Rattle.world_spec.specs.declared.tasks.TraceWay.{TraceWay}
-use Rattle.world_spec.specs.declared.tasks.TraceWay.TheVariants as TraceWay
 use Rattle.verb_spec.specs.declared.WordKind.{WordKind}
-use Rattle.verb_spec.specs.declared.WordKind.TheVariants as WordKind
 use Rattle.verb_spec.specs.declared.Value.{Value}
-use Rattle.verb_spec.specs.declared.Value.TheVariants as Value
 use Rattle.verb_spec.specs.Words.{number_of, signal_of, cap_of, trace_way_of}
 
 -- the path that a word is, where it is one

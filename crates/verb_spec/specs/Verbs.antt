@@ -5,13 +5,9 @@ use Rattle.std.specs.Str.{bytes_eq}
 use Rattle.text_spec.specs.Texts.{Placed}
 use Rattle.log_spec.specs.Shown.{Shown}
 use Rattle.world_spec.specs.declared.Call.{Call}
-use Rattle.world_spec.specs.declared.Call.TheVariants as Call
 use Rattle.verb_spec.specs.declared.CallVerb.{CallVerb}
-use Rattle.verb_spec.specs.declared.CallVerb.TheVariants as CallVerb
 use Rattle.verb_spec.specs.declared.Verb.{Verb}
-use Rattle.verb_spec.specs.declared.Verb.TheVariants as Verb
 use Rattle.verb_spec.specs.declared.WordKind.{WordKind}
-use Rattle.verb_spec.specs.declared.WordKind.TheVariants as WordKind
 use Rattle.verb_spec.specs.declared.Value.{Value}
 use Rattle.verb_spec.specs.Words.{is_one_of}
 use Rattle.verb_spec.specs.Values.{values_behind, value_shown, Spoken}

@@ -3,11 +3,9 @@ use Rattle.std.specs.List.{list_all, list_any}
 use Rattle.std.specs.Map.{lookup}
 use Rattle.std.specs.Str.{bytes_eq}
 use Rattle.smack_base.specs.declared.cap.Cap.{Cap}
-use Rattle.smack_base.specs.declared.cap.Cap.TheVariants as Cap
 use Rattle.smack_base.specs.Paths.{is_slash, is_name_byte}
 use Rattle.text_spec.specs.Texts.{Placed}
 use Rattle.world_spec.specs.declared.tasks.TraceWay.{TraceWay}
-use Rattle.world_spec.specs.declared.tasks.TraceWay.TheVariants as TraceWay
 
 abbrev pub is_digit : ℕ → Bool
 is_digit b = nat_le 48 b && nat_le b 57
