@@ -4,18 +4,14 @@ use Rattle.std.specs.List.{AllByRecursion, flat_map}
 use Rattle.smack_base.specs.declared.ids.LabelId.{LabelId}
 use Rattle.smack_base.specs.declared.rule_op.Pair.{Pair}
 use Rattle.smack_base.specs.declared.rule_op.RuleOp.{RuleOp}
-use Rattle.smack_base.specs.declared.rule_op.RuleOp.TheVariants as RuleOp
 use Rattle.text_spec.specs.Texts.{Placed}
 use Rattle.text_spec.specs.declared.BadLine.{BadLine}
 use Rattle.text_spec.specs.Names.{id_of}
 use Rattle.label_table.proofs.Places.{id_is_named}
 use Rattle.file_spec.specs.declared.SelfFile.TheVariants as SelfFile
 use Rattle.file_spec.specs.declared.SmackFile.{SmackFile}
-use Rattle.file_spec.specs.declared.SmackFile.TheVariants as SmackFile
 use Rattle.file_spec.specs.declared.Refusal.{Refusal}
-use Rattle.file_spec.specs.declared.Refusal.TheVariants as Refusal
 use Rattle.file_spec.specs.declared.Compiled.{Compiled}
-use Rattle.file_spec.specs.declared.Compiled.TheVariants as Compiled
 use Rattle.file_spec.specs.Writes.{NamedWrite, NamedSet, NamedChange, NamedRevoke, NamedClear, NamedAdd, NamedAmbient, NamedPtrace, NamedLogging, file_of, read_as, line_of, writes_of_text}
 use Rattle.file_spec.specs.Files.{by_id, by_ids, of_label, of_pair, op_of, with_first_op, ops_of, ops_of_writes, pair_set, label_added, becomes, if_accepted, compiled_text, compiled_in, compiled}
 use Rattle.replay_spec.specs.Plain.{HasId}

@@ -1,2 +1,3 @@
 pub mod KnownLabels
+pub mod ReadValues
 pub mod ReadCalls

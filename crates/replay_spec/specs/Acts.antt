@@ -2,13 +2,10 @@ use Rattle.std.specs.Prelude.{ℕ, List, Option, Some, None}
 use Rattle.text_spec.specs.Names.{id_of}
 use Rattle.file_spec.specs.Files.{compiled}
 use Rattle.verb_spec.specs.declared.Verb.{Verb}
-use Rattle.verb_spec.specs.declared.Verb.TheVariants as Verb
 use Rattle.script_spec.specs.Lines.{ScriptLine, word_in, verb_in, words_behind}
 use Rattle.world_spec.specs.declared.tasks.TaskCall.TheVariants as TaskCall
 use Rattle.world_spec.specs.declared.Call.{Call}
-use Rattle.world_spec.specs.declared.Call.TheVariants as Call
 use Rattle.replay_spec.specs.declared.Act.{Act}
-use Rattle.replay_spec.specs.declared.Act.TheVariants as Act
 use Rattle.verb_spec.specs.Values.{pid_in, modes_in}
 use Rattle.verb_spec.specs.Verbs.{made_call}
 use Rattle.replay_spec.specs.Calls.{of_one, of_three, file_call}

@@ -2,9 +2,7 @@ use Rattle.std.specs.Prelude.{Option, Some, None, Result, Ok, Err}
 use Rattle.std.specs.Option.{option_map}
 use Rattle.file_spec.specs.declared.Refusal.{Refusal}
 use Rattle.file_spec.specs.declared.Compiled.{Compiled}
-use Rattle.file_spec.specs.declared.Compiled.TheVariants as Compiled
 use Rattle.world_spec.specs.declared.tasks.TaskCall.{TaskCall}
-use Rattle.world_spec.specs.declared.tasks.TaskCall.TheVariants as TaskCall
 
 -- what is made of one word, and of three, where each is of its kind
 abbrev pub of_one : {A C : Type 0} → Option A → (A → C) → Option C

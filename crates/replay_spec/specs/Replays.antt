@@ -6,24 +6,19 @@ use Rattle.rules_spec.specs.Rulings.{ruling}
 use Rattle.rules_spec.specs.Cases.{verdict_of_cases}
 use Rattle.rules_spec.specs.Creds.{is_effective}
 use Rattle.file_spec.specs.declared.Refusal.{Refusal}
-use Rattle.file_spec.specs.declared.Refusal.TheVariants as Refusal
 use Rattle.file_spec.specs.declared.Compiled.{Compiled}
-use Rattle.file_spec.specs.declared.Compiled.TheVariants as Compiled
 use Rattle.file_spec.specs.Files.{compiled}
 use Rattle.script_spec.specs.Lines.{ScriptLine, word_in, table_of}
 use Rattle.script_spec.specs.Tasks.{task_names}
 use Rattle.world_spec.specs.declared.tasks.TaskCall.TheVariants as TaskCall
 use Rattle.world_spec.specs.declared.Call.{Call}
-use Rattle.world_spec.specs.declared.Call.TheVariants as Call
 use Rattle.world_spec.specs.declared.Entry.{Entry}
 use Rattle.world_spec.specs.Worlds.{World, world_first, live_task, creds_of}
 use Rattle.world_spec.specs.Steps.{step}
 use Rattle.record_spec.specs.declared.AskedLine.{AskedLine}
 use Rattle.record_spec.specs.declared.AskedWhat.{AskedWhat}
-use Rattle.record_spec.specs.declared.AskedWhat.TheVariants as AskedWhat
 use Rattle.record_spec.specs.declared.RunRecord.{RunRecord}
 use Rattle.replay_spec.specs.declared.Act.{Act}
-use Rattle.replay_spec.specs.declared.Act.TheVariants as Act
 use Rattle.replay_spec.specs.Acts.{act_of_line}
 
 -- what the calls so far have left
