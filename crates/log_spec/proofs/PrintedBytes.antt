@@ -65,26 +65,32 @@ name_bytes n none =
     (no_first_fault (is_dots n.bytes) (PathFault.DotName n.at) _ (no_first_fault (nat_lt 64 (length n.bytes)) (PathFault.NameTooLong n.at) _
     (no_first_fault (length n.bytes == 0) (PathFault.EmptyName n.at) _ (ap is_none none)))))
 
-of_letter : (on : Bool) (letter : ℕ) → is_name_byte letter ≡ true → list_all is_name_byte (when on letter) ≡ true
-of_letter true letter is = and_from _ _ is refl
-of_letter false letter is = refl
+-- what the letters of the modes pass, and the dash, the text of a mode set passes
+module _ (test : ℕ → Bool) (dash_passes : test 45 ≡ true) where
+  of_letter : (on : Bool) (letter : ℕ) → test letter ≡ true → list_all test (when on letter) ≡ true
+  of_letter true letter is = and_from _ _ is refl
+  of_letter false letter is = refl
 
-of_or_dash : (text : List ℕ) → list_all is_name_byte text ≡ true → list_all is_name_byte (or_dash text) ≡ true
-of_or_dash [] all = refl
-of_or_dash (b ∷ bs) all = all
+  of_or_dash : (text : List ℕ) → list_all test text ≡ true → list_all test (or_dash text) ≡ true
+  of_or_dash [] all = and_from _ _ dash_passes refl
+  of_or_dash (b ∷ bs) all = all
 
--- letters that stand behind a text, each where its flag is set
-of_letters : (letters : List ℕ) (flags : List Bool) (text : List ℕ) → list_all is_name_byte letters ≡ true → list_all is_name_byte text ≡ true
-    → list_all is_name_byte (fold (λ text p. text ++ when p.1 p.0) text (zip letters flags)) ≡ true
-of_letters [] flags text are all = all
-of_letters (l ∷ ls) [] text are all = all
-of_letters (l ∷ ls) (b ∷ bs) text are all =
-    let parts = and_parts (is_name_byte l) (list_all is_name_byte ls) are in
-    of_letters ls bs (text ++ when b l) parts.1 (list_all-append is_name_byte text (when b l) ∙ and_from _ _ all (of_letter b l parts.0))
+  -- letters that stand behind a text, each where its flag is set
+  of_letters : (letters : List ℕ) (flags : List Bool) (text : List ℕ) → list_all test letters ≡ true → list_all test text ≡ true
+      → list_all test (fold (λ text p. text ++ when p.1 p.0) text (zip letters flags)) ≡ true
+  of_letters [] flags text are all = all
+  of_letters (l ∷ ls) [] text are all = all
+  of_letters (l ∷ ls) (b ∷ bs) text are all =
+      let parts = and_parts (test l) (list_all test ls) are in
+      of_letters ls bs (text ++ when b l) parts.1 (list_all-append test text (when b l) ∙ and_from _ _ all (of_letter b l parts.0))
+
+  pub letters_pass : list_all test mode_letters ≡ true → (m : Modes) → list_all test (letters_of m) ≡ true
+  letters_pass are m =
+      of_or_dash (fold (λ text p. text ++ when p.1 p.0) [] (zip mode_letters (flags_of m))) (of_letters mode_letters (flags_of m) [] are refl)
 
 -- the letters of a mode set, and the dash, are from ! to ~
 pub letter_bytes : (m : Modes) → list_all is_name_byte (letters_of m) ≡ true
-letter_bytes m = of_or_dash (fold (λ text p. text ++ when p.1 p.0) [] (zip mode_letters (flags_of m))) (of_letters mode_letters (flags_of m) [] refl refl)
+letter_bytes m = letters_pass is_name_byte refl refl m
 
 digit_byte : (b : ℕ) → is_digit b ≡ true → is_name_byte b ≡ true
 digit_byte b is =

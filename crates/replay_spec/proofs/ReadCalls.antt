@@ -1,4 +1,4 @@
-use Rattle.std.proofs.Common.{◌≡◌, ◌⊎◌, ⊎_elim, inl, inr, ℕ, List, Option, Some, None, Result, Ok, Err, refl, sym, subst}
+use Rattle.std.proofs.Common.{◌≡◌, ◌⊎◌, ⊎_elim, inl, inr, ℕ, List, true, Option, Some, None, Result, Ok, Err, refl, sym, subst}
 use Rattle.std.specs.List.{AllByRecursion}
 use Rattle.text_spec.specs.Texts.{Placed}
 use Rattle.text_spec.specs.Names.{id_of}
@@ -7,6 +7,7 @@ use Rattle.file_spec.specs.declared.Compiled.{Compiled}
 use Rattle.file_spec.specs.Files.{compiled}
 use Rattle.world_spec.specs.declared.tasks.TaskCall.{TaskCall}
 use Rattle.world_spec.specs.declared.Call.{Call}
+use Rattle.log_spec.specs.Audits.{is_word}
 use Rattle.verb_spec.specs.declared.CallVerb.{CallVerb}
 use Rattle.verb_spec.specs.declared.Verb.{Verb}
 use Rattle.verb_spec.specs.Values.{pid_in, modes_in, values_behind}
@@ -21,11 +22,13 @@ use Rattle.replay_spec.specs.Plain.{HasId, HasPid, IsPlainCall}
 use Rattle.replay_spec.proofs.KnownLabels.{IsKnownPair, IsKnownCompiled, compiled_known}
 use Rattle.replay_spec.proofs.ReadValues.{known_pid, IsReadValue, values_are_read}
 
--- A call that words behind a verb make: what its values are is known.
+-- A call that words behind a verb make: the name that tells it is a word, and that of the verb, and its values are known.
 pub record IsMadeCall (labels names : List (List ℕ)) (call : Call) : Type 0 where
   pub verb : CallVerb
   pub ws : List Placed
   pub makes : made_call labels names verb ws ≡ Some call
+  pub named : verb_of (call_verb call) ≡ Some (Verb.Call verb)
+  pub word : is_word (call_verb call) ≡ true
   pub values : AllByRecursion (IsReadValue labels names) (spoken call).values
 
 -- What an object call of a line is made of: a task that has a name where it forks, labels that are known where it is self
@@ -51,28 +54,27 @@ of_three_holds P None b c make d each is = absurd cc
 of_three_holds P (Some x) None c make d each is = absurd cc
 of_three_holds P (Some x) (Some y) c make d each is = of_one_holds P c (make x y) d (λ z third. each x y z refl refl third) is
 
--- a call that words behind a verb make has a name that is one of such a verb
 made_by : (labels names : List (List ℕ)) (verb : CallVerb) (ws : List Placed) (call : Call) → made_call labels names verb ws ≡ Some call
-    → (verb_of (call_verb call) ≡ Some (Verb.Call verb)) × IsMadeCall labels names call
+    → IsMadeCall labels names call
 made_by labels names verb ws call is =
     let parts = values_of_made (call_from verb) (values_behind labels names (call_kinds verb ws) ws) call is in
-    let made = call_made verb ws parts.0 call (values_fit labels names (call_kinds verb ws) ws parts.0 parts.1) parts.2 in (
-      made.named,
-      record {
-        verb = verb;
-        ws = ws;
-        makes = is;
-        values = subst (AllByRecursion (IsReadValue labels names)) (sym made.says) (values_are_read labels names (call_kinds verb ws) ws parts.0 parts.1);
-      },
-    )
+    let made = call_made verb ws parts.0 call (values_fit labels names (call_kinds verb ws) ws parts.0 parts.1) parts.2 in
+    record {
+      verb = verb;
+      ws = ws;
+      makes = is;
+      named = made.named;
+      word = made.word;
+      values = subst (AllByRecursion (IsReadValue labels names)) (sym made.says) (values_are_read labels names (call_kinds verb ws) ws parts.0 parts.1);
+    }
 
-call_is_read : (labels names : List (List ℕ)) (verb : CallVerb) (call : Call)
-    → (verb_of (call_verb call) ≡ Some (Verb.Call verb)) × IsMadeCall labels names call → IsReadCall labels names call
-call_is_read labels names verb (Call.Task (TaskCall.Fork pid)) made = absurd cc
-call_is_read labels names verb (Call.Task TaskCall.Exit) made = tt
-call_is_read labels names verb (Call.Task (TaskCall.SelfRules rules)) made = absurd cc
-call_is_read labels names verb (Call.Task (TaskCall.Relabels list)) made = absurd cc
-call_is_read labels names verb call made = made.1
+-- it is none of the calls that have another name
+made_is_read : (labels names : List (List ℕ)) (call : Call) → IsMadeCall labels names call → IsReadCall labels names call
+made_is_read labels names (Call.Task (TaskCall.Fork pid)) made = let other = made.named in absurd cc
+made_is_read labels names (Call.Task TaskCall.Exit) made = tt
+made_is_read labels names (Call.Task (TaskCall.SelfRules rules)) made = let other = made.named in absurd cc
+made_is_read labels names (Call.Task (TaskCall.Relabels list)) made = let other = made.named in absurd cc
+made_is_read labels names call made = made
 
 file_is_read : (labels names : List (List ℕ)) (made : Result Compiled Refusal) (call : TaskCall)
     → ((c : Compiled) → made ≡ Ok c → IsKnownCompiled labels c) → file_call made ≡ Some call → IsReadCall labels names (Call.Task call)
@@ -124,7 +126,7 @@ module _ (labels names : List (List ℕ)) (l : ScriptLine) where
       (known_pid names (word_in 1 l) pid (act_words (Act.Fork pid) does).1) is
   act_is_read (Some (Act.Make made)) call does is =
       of_none_holds (IsReadCall labels names) made call
-      (⊎_elim (λ e. subst (IsReadCall labels names) (sym e.1) tt) (λ m. call_is_read labels names m.0 made (made_by labels names m.0 (words_behind l) made m.2)) (act_words (Act.Make made) does)) is
+      (⊎_elim (λ e. subst (IsReadCall labels names) (sym e.1) tt) (λ m. made_is_read labels names made (made_by labels names m.0 (words_behind l) made m.2)) (act_words (Act.Make made) does)) is
 
 pub plain_is_read : (labels names : List (List ℕ)) (call : Call) → IsPlainCall labels names call → IsReadCall labels names call
 plain_is_read labels names call plain = act_is_read labels names plain.line (act_of_line labels names plain.line) call refl plain.gives

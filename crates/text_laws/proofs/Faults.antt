@@ -1,10 +1,7 @@
 use Rattle.std.proofs.Common.{◌≡◌, ℕ, List, codes, drop, if◌then◌else◌, refl}
 use Rattle.smack_base.specs.declared.label.LabelFault.{LabelFault}
-use Rattle.smack_base.specs.declared.label.LabelFault.TheVariants as LabelFault
 use Rattle.text_spec.specs.declared.LineFault.{LineFault}
-use Rattle.text_spec.specs.declared.LineFault.TheVariants as LineFault
 use Rattle.file_spec.specs.declared.Refusal.{Refusal}
-use Rattle.file_spec.specs.declared.Refusal.TheVariants as Refusal
 use Rattle.record_spec.specs.Refusals.{label_fault_words, line_fault_words, refusal_words}
 use Rattle.text_laws.proofs.Clean.{AreClean}
 use Rattle.text_laws.proofs.Numbers.{number_in, number_read, numeral_clean}

@@ -1,10 +1,13 @@
-use Rattle.std.proofs.Common.{◌≡◌, ℕ, Bool, true, false, ◌&&◌, ◌||◌, List, [], ◌∷◌, ◌++◌, refl, ap, ◌∙◌}
-use Rattle.std.specs.Prelude.{fold}
-use Rattle.std.specs.List.{zip}
+use Rattle.std.proofs.Common.{◌≡◌, ℕ, ◌+◌, Bool, true, false, ◌&&◌, ◌||◌, List, [], ◌∷◌, ◌++◌, Some, None, refl, sym, ap, ◌∙◌}
+use Rattle.std.specs.Prelude.{fold, is_none}
+use Rattle.std.specs.List.{zip, list_all, position_from}
+use Rattle.std.proofs.lemmas.Bool.{and_parts}
 use Rattle.std.proofs.lemmas.List.Folds.{list_any-append}
 use Rattle.smack_base.specs.declared.modes.Modes.{Modes}
-use Rattle.smack_base.specs.Modes.{letter_r, letter_w, letter_x, letter_a, letter_t, letter_b, mode_letters, flags_of, is_either_case, has_letter, modes_of, when, or_dash, letters_of}
-use Rattle.log_spec.proofs.PrintedBytes.{letter_bytes}
+use Rattle.smack_base.specs.Modes.{letter_r, letter_w, letter_x, letter_a, letter_t, letter_b, mode_letters, flags_of, is_either_case, has_letter, modes_of, is_letter, is_modes, when, or_dash, letters_of}
+use Rattle.smack_base.proofs.ModeLetters.{is_bad, bad_first}
+use Rattle.log_spec.proofs.PrintedBytes.{letter_bytes, letters_pass}
+use Rattle.verb_spec.specs.Values.{modes_in}
 use Rattle.text_laws.proofs.Clean.{is_clean, name_bytes_clean}
 
 -- what adding nothing to a test, and joining it with a known one, leaves of it
@@ -67,3 +70,16 @@ modes_read m = λ i. record {
 -- the letters and the dash are neither spaces nor line feeds
 pub modes_clean : (m : Modes) → is_clean (letters_of m) ≡ true
 modes_clean m = name_bytes_clean (letters_of m) (letter_bytes m)
+
+-- where all bytes of a text are letters, none is the first that is not
+no_bad_letter : (from : ℕ) (text : List ℕ) → list_all is_letter text ≡ true → position_from is_bad from text ≡ None
+no_bad_letter from [] all = refl
+no_bad_letter from (b ∷ bs) all =
+    let parts = and_parts (is_letter b) (list_all is_letter bs) all in rw (parts.0) (no_bad_letter (from + 1) bs parts.1)
+
+-- the text of a mode set is one, and is read as the set
+pub modes_again : (m : Modes) → modes_in (letters_of m) ≡ Some m
+modes_again m =
+    let good : is_modes (letters_of m) ≡ true =
+    ap is_none (sym (bad_first (letters_of m)) ∙ no_bad_letter 0 (letters_of m) (letters_pass is_letter refl refl m)) in
+    rw good (ap (λ modes. Some modes) (modes_read m))

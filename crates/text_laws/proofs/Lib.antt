@@ -8,6 +8,7 @@ pub mod RuleWrites
 pub mod Verdicts
 pub mod Faults
 pub mod Paths
+pub mod Values
 pub mod Calls
 pub mod Replies
 pub mod Entries

@@ -6,7 +6,7 @@ use Rattle.log_spec.specs.Numerals.{numeral}
 use Rattle.log_spec.specs.Words.{call_number, version_word}
 use Rattle.log_spec.proofs.Numerals.{value_from as value_of_digits, numeral_read, numeral_injective, numeral_digits, numeral_leads, numeral_of_zero}
 use Rattle.log_spec.proofs.PrintedBytes.{all_weaker, numeral_bytes}
-use Rattle.replay_spec.proofs.ReadCalls.{IsReadBy}
+use Rattle.replay_spec.proofs.ReadValues.{IsReadBy}
 use Rattle.text_laws.proofs.Clean.{is_above, is_clean, name_bytes_clean, clean_behind}
 use Rattle.text_laws.proofs.Cut.{cut_word, same_parts}
 

@@ -3,11 +3,10 @@ use Rattle.std.specs.List.{flat_map}
 use Rattle.std.specs.Result.{result_ok}
 use Rattle.std.proofs.lemmas.Bool.{eqb-true}
 use Rattle.smack_base.specs.declared.path.PathFault.{PathFault}
-use Rattle.smack_base.specs.declared.path.PathFault.TheVariants as PathFault
 use Rattle.smack_base.specs.Paths.{PathName, is_slash, in_first_name, names_from, name_fault, first_path_fault, unless_bad_name, names_of, path_of}
 use Rattle.verb_spec.specs.Values.{path_text}
 use Rattle.verb_spec.specs.Values.{path_in}
-use Rattle.replay_spec.proofs.ReadCalls.{IsReadBy}
+use Rattle.replay_spec.proofs.ReadValues.{IsReadBy}
 use Rattle.log_spec.proofs.PrintedBytes.{name_bytes}
 use Rattle.text_laws.proofs.Clean.{is_clean, name_bytes_clean, clean_behind}
 use Rattle.text_laws.proofs.Cut.{same_parts}

@@ -51,30 +51,31 @@ pub values_of_made : (make : List Value → Option Call) (values : Option (List 
 values_of_made make None call is = absurd cc
 values_of_made make (Some vs) call is = (vs, refl, is)
 
+-- the words that show some values
+abbrev pub shown_behind : List (List ℕ) → List (List ℕ) → List Value → List Placed
+shown_behind labels names values = map (λ w. record { at = 0; bytes = w }) (spelled labels names (map value_shown values))
+
 -- Where each value that a word of a kind is read as is read again from the word that shows it, the words that show the
 -- values that words are read as are read as the same values.
 module _ (labels names : List (List ℕ)) (again : (kind : WordKind) (word : List ℕ) (value : Value) → value_in labels names kind word ≡ Some value → value_in labels names kind (spell labels names (value_shown value)) ≡ Some value) where
-  abbrev pub shown_behind : List Value → List Placed
-  shown_behind values = map (λ w. record { at = 0; bytes = w }) (spelled labels names (map value_shown values))
-
   pub values_again : (kinds : List WordKind) (ws : List Placed) (values : List Value) → values_behind labels names kinds ws ≡ Some values
-      → values_behind labels names kinds (shown_behind values) ≡ Some values
+      → values_behind labels names kinds (shown_behind labels names values) ≡ Some values
   values_again [] ws values is = is
   values_again (kind ∷ kinds) [] values is = absurd cc
   values_again (kind ∷ kinds) (w ∷ ws) values is =
       let parts = value_parts (value_in labels names kind w.bytes) (values_behind labels names kinds ws) values is in
-      subst (λ vs. values_behind labels names (kind ∷ kinds) (shown_behind vs) ≡ Some vs) parts.4
+      subst (λ vs. values_behind labels names (kind ∷ kinds) (shown_behind labels names vs) ≡ Some vs) parts.4
       (ap₂ with_value (again kind w.bytes parts.0 parts.2) (values_again kinds ws parts.1 parts.3))
 
   -- the words that show a call that words make, make it
   pub made_again : (verb : CallVerb) (ws : List Placed) (call : Call) → made_call labels names verb ws ≡ Some call
-      → made_call labels names verb (shown_behind (spoken call).values) ≡ Some call
+      → made_call labels names verb (shown_behind labels names (spoken call).values) ≡ Some call
   made_again verb ws call is =
       let parts = values_of_made (call_from verb) (values_behind labels names (call_kinds verb ws) ws) call is in
       let made = call_made verb ws parts.0 call (values_fit labels names (call_kinds verb ws) ws parts.0 parts.1) parts.2 in
-      let told = shown_behind (spoken call).values in
+      let told = shown_behind labels names (spoken call).values in
       ap (from_values (call_from verb))
       (ap (λ kinds. values_behind labels names kinds told) (made.alike told ws)
-      ∙ ap (λ vs. values_behind labels names (call_kinds verb ws) (shown_behind vs)) made.says
+      ∙ ap (λ vs. values_behind labels names (call_kinds verb ws) (shown_behind labels names vs)) made.says
       ∙ values_again (call_kinds verb ws) ws parts.0 parts.1)
       ∙ parts.2
