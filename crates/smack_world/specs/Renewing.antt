@@ -6,16 +6,11 @@ use Rattle.world_spec.specs.declared.tasks.TaskCall.TheVariants as TaskCall
 
 -- whether a call on tasks may leave its caller with other credentials
 abbrev pub task_renews : TaskCall → Bool
-task_renews (TaskCall.Fork pid) = false
-task_renews TaskCall.Exit = false
 task_renews (TaskCall.Relabel l) = true
 task_renews (TaskCall.DropCap cap) = true
 task_renews (TaskCall.SelfRules rules) = true
 task_renews (TaskCall.Relabels labels) = true
-task_renews (TaskCall.Kill pid sig) = false
-task_renews TaskCall.Take = false
-task_renews (TaskCall.TraceRead pid) = false
-task_renews (TaskCall.TraceAttach pid) = false
+task_renews call = false
 
 -- whether a call may leave its caller with other credentials
 abbrev pub renews : Call → Bool

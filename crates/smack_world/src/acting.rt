@@ -119,16 +119,11 @@ fn task_renews(call: &TaskCall) -> bool
     ensures { result ≡ task_renews_by call.now }
 {
     match call {
-        TaskCall::Fork { pid: _ } => false,
-        TaskCall::Exit => false,
         TaskCall::Relabel { l: _ } => true,
         TaskCall::DropCap { cap: _ } => true,
         TaskCall::SelfRules { rules: _ } => true,
         TaskCall::Relabels { labels: _ } => true,
-        TaskCall::Kill { pid: _, sig: _ } => false,
-        TaskCall::Take => false,
-        TaskCall::TraceRead { pid: _ } => false,
-        TaskCall::TraceAttach { pid: _ } => false,
+        _ => false,
     }
 }
 
