@@ -1,4 +1,4 @@
-use Rattle.std.proofs.Common.{◌≡◌, ◌<◌, ◌≤◌, ℕ, ◌+◌, Bool, true, false, List, [], ◌∷◌, ◌++◌, length, refl, subst, sym, append-nil, append_assoc, Option, Some, None, Result, Ok, if◌then◌else◌, arith}
+use Rattle.std.proofs.Common.{◌≡◌, ◌<◌, ◌≤◌, ℕ, ◌+◌, Bool, true, false, List, [], ◌∷◌, ◌++◌, length, refl, ap, ap₂, subst, sym, append-nil, append_assoc, Option, Some, None, Result, Ok, if◌then◌else◌, arith}
 use Rattle.std.specs.Prelude.{nat_lt, drop, not, ◌==◌}
 use Rattle.std.specs.Option.{option_map}
 use Rattle.std.proofs.lemmas.Bool.{eqb-true, and_parts, ltb-true, ltb-false}
@@ -7,26 +7,22 @@ use Rattle.text_spec.specs.Names.{place_of}
 use Rattle.verb_spec.specs.declared.Verb.{Verb}
 use Rattle.verb_spec.specs.declared.WordKind.{WordKind}
 use Rattle.script_spec.specs.declared.Cause.{Cause}
-use Rattle.script_spec.specs.declared.Cause.TheVariants as Cause
 use Rattle.script_spec.specs.declared.What.TheVariants as What
 use Rattle.script_spec.specs.declared.ScriptFault.{ScriptFault}
-use Rattle.script_spec.specs.declared.ScriptFault.TheVariants as ScriptFault
-use Rattle.verb_spec.specs.Verbs.{verb_of, kinds_of, is_unbuilt_verb}
-use Rattle.verb_spec.specs.Kinds.{is_of_kind, bad_word}
-use Rattle.verb_spec.specs.GONE.{has_deep_path}
+use Rattle.verb_spec.specs.Verbs.{verb_of, kinds_of, kinds_by, is_unbuilt_verb}
+use Rattle.verb_spec.specs.Kinds.{is_of_kind, bad_word, has_word}
 use Rattle.verb_spec.specs.Words.{is_task_name, word_at}
-use Rattle.script_spec.specs.Lines.{ScriptLine, verb_in}
+use Rattle.script_spec.specs.Lines.{ScriptLine, verb_in, words_behind, kinds_in}
 use Rattle.script_spec.specs.Tasks.{Tasks, task_names, has_exit, calls_by, tasks_of, pid_of, is_gone, is_live_name}
-use Rattle.script_spec.specs.Causes.{cause_if, first_cause, names_unbuilt_file, is_name_good, is_wait_good, words_cause, unless_verb, verb_cause, behind_task, line_cause}
+use Rattle.script_spec.specs.Causes.{cause_if, first_cause, is_file_unbuilt, is_path_unbuilt, is_name_bad, is_wait_bad, words_cause, unless_verb, verb_cause, behind_task, line_cause}
 use Rattle.script_spec.specs.Grammar.{Item, has_text, call_of, fault_if, first_script_fault, limit_faults, item_fault, unless_script_fault, calls_of, lines_fault, items, script_of, most_bytes, most_lines, most_script_tasks, parse}
 use Rattle.replay_spec.proofs.KnownLabels.{not_refused}
 
--- words are of kinds, one each, behind the words before them
-abbrev pub AreOfKinds : List Placed → List WordKind → List Placed → Type 0
-AreOfKinds before [] [] = Unit {0}
-AreOfKinds before [] (w ∷ ws) = ⊥
-AreOfKinds before (d ∷ ds) [] = ⊥
-AreOfKinds before (d ∷ ds) (w ∷ ws) = (is_of_kind d before w.bytes ≡ true) × AreOfKinds (before ++ w ∷ []) ds ws
+-- words are of kinds, one each
+abbrev pub AreOfKinds : List WordKind → List Placed → Type 0
+AreOfKinds [] [] = Unit {0}
+AreOfKinds (kind ∷ kinds) (w ∷ ws) = (is_of_kind kind w.bytes ≡ true) × AreOfKinds kinds ws
+AreOfKinds kinds ws = ⊥
 
 -- A call behind the calls above it: its verb, the words behind it, each of its kind, and tasks that may be named there.
 pub record IsGoodLine (above : List ScriptLine) (l : ScriptLine) : Type 0 where
@@ -35,9 +31,9 @@ pub record IsGoodLine (above : List ScriptLine) (l : ScriptLine) : Type 0 where
   pub behind : List Placed
   pub words : l.words ≡ first ∷ behind
   pub is : verb_of first.bytes ≡ Some verb
-  pub kinds : AreOfKinds (first ∷ []) (kinds_of verb) behind
-  pub name : is_name_good (tasks_of above) verb behind ≡ true
-  pub wait : is_wait_good (tasks_of above) l.task verb behind ≡ true
+  pub kinds : AreOfKinds (kinds_of verb behind) behind
+  pub name : has_word (is_name_bad (tasks_of above)) (kinds_of verb behind) behind ≡ false
+  pub wait : has_word (is_wait_bad (tasks_of above) l.task) (kinds_of verb behind) behind ≡ false
   pub there : l.task < length (task_names above)
   pub live : has_exit above l.task ≡ false
   pub kept : is_gone (tasks_of above) l.task ≡ false
@@ -47,6 +43,13 @@ pub record IsGoodLine (above : List ScriptLine) (l : ScriptLine) : Type 0 where
 -- the verb of a good call
 pub good_verb : (above : List ScriptLine) (l : ScriptLine) (good : IsGoodLine above l) → verb_in l ≡ Some good.verb
 good_verb above l good = rw good.words good.is
+
+-- and the words behind it, with their kinds
+pub good_behind : (above : List ScriptLine) (l : ScriptLine) (good : IsGoodLine above l) → words_behind l ≡ good.behind
+good_behind above l good = ap (drop 1) good.words
+
+pub good_kinds : (above : List ScriptLine) (l : ScriptLine) (good : IsGoodLine above l) → kinds_in l ≡ kinds_of good.verb good.behind
+good_kinds above l good = ap₂ kinds_by (good_verb above l good) (good_behind above l good)
 
 abbrev pub AreGoodLines : List ScriptLine → List ScriptLine → Type 0
 AreGoodLines above [] = Unit {0}
@@ -64,17 +67,15 @@ no_word_cause None more none = (refl, none)
 no_word_cause (Some k) more none = cc
 
 -- as many words as kinds, none of them bad
-kinds_hold : (before : List Placed) (ds : List WordKind) (ws : List Placed) → length ws ≡ length ds → bad_word before ds ws ≡ None → AreOfKinds before ds ws
-kinds_hold before [] [] many none = tt
-kinds_hold before [] (w ∷ ws) many none = omega (arith, many)
-kinds_hold before (d ∷ ds) [] many none = omega (arith, many)
-kinds_hold before (d ∷ ds) (w ∷ ws) many none =
-    by (is_of_kind d before w.bytes) refl (kinds_hold (before ++ w ∷ []) ds ws (omega (arith, many))) none
+kinds_hold : (k : ℕ) (kinds : List WordKind) (ws : List Placed) → length ws ≡ length kinds → bad_word k kinds ws ≡ None → AreOfKinds kinds ws
+kinds_hold k [] [] many none = tt
+kinds_hold k [] (w ∷ ws) many none = omega (arith, many)
+kinds_hold k (kind ∷ kinds) [] many none = omega (arith, many)
+kinds_hold k (kind ∷ kinds) (w ∷ ws) many none =
+    by (is_of_kind kind w.bytes) refl (kinds_hold (k + 1) kinds ws (omega (arith, many))) none
   where
-    by : (good : Bool) → is_of_kind d before w.bytes ≡ good
-        → (bad_word (before ++ w ∷ []) ds ws ≡ None → AreOfKinds (before ++ w ∷ []) ds ws)
-        → (if good then bad_word (before ++ w ∷ []) ds ws else Some (length before + 2)) ≡ None
-        → (is_of_kind d before w.bytes ≡ true) × AreOfKinds (before ++ w ∷ []) ds ws
+    by : (good : Bool) → is_of_kind kind w.bytes ≡ good → (bad_word (k + 1) kinds ws ≡ None → AreOfKinds kinds ws)
+        → (if good then bad_word (k + 1) kinds ws else Some k) ≡ None → (is_of_kind kind w.bytes ≡ true) × AreOfKinds kinds ws
     by true good rest none = (good, rest none)
     by false good rest none = cc
 
@@ -90,28 +91,29 @@ is_not false is = cc
 record IsGood (tasks : Tasks) (task : List ℕ) (first : Placed) (behind : List Placed) : Type 0 where
   verb : Verb
   is : verb_of first.bytes ≡ Some verb
-  kinds : AreOfKinds (first ∷ []) (kinds_of verb) behind
-  name : is_name_good tasks verb behind ≡ true
-  wait : is_wait_good tasks (pid_of tasks task) verb behind ≡ true
+  kinds : AreOfKinds (kinds_of verb behind) behind
+  name : has_word (is_name_bad tasks) (kinds_of verb behind) behind ≡ false
+  wait : has_word (is_wait_bad tasks (pid_of tasks task)) (kinds_of verb behind) behind ≡ false
   live : is_live_name tasks task ≡ true
 
 words_good : (tasks : Tasks) (task : List ℕ) (first : Placed) (verb : Verb) (ws : List Placed) (text : Bool) → verb_of first.bytes ≡ Some verb
-    → words_cause tasks task first verb ws text ≡ None → IsGood tasks task first ws
+    → words_cause tasks task (kinds_of verb ws) ws text ≡ None → IsGood tasks task first ws
 words_good tasks task first verb ws text is none =
-    let built = no_first_cause (names_unbuilt_file verb ws) Cause.NotBuilt _ none in
-    let many = no_first_cause (not (length ws == length (kinds_of verb))) Cause.Words _ built.1 in
-    let word = no_word_cause (bad_word (first ∷ []) (kinds_of verb) ws) _ many.1 in
-    let deep = no_first_cause (has_deep_path (kinds_of verb) ws) Cause.NotBuilt _ word.1 in
+    let kinds = kinds_of verb ws in
+    let built = no_first_cause (has_word is_file_unbuilt kinds ws) Cause.NotBuilt _ none in
+    let many = no_first_cause (not (length ws == length kinds)) Cause.Words _ built.1 in
+    let word = no_word_cause (bad_word 3 kinds ws) _ many.1 in
+    let deep = no_first_cause (has_word is_path_unbuilt kinds ws) Cause.NotBuilt _ word.1 in
     let whole = no_first_cause (not text) Cause.Text _ deep.1 in
     let live = no_first_cause (not (is_live_name tasks task)) Cause.Task _ whole.1 in
-    let named = no_first_cause (not (is_name_good tasks verb ws)) Cause.Name _ live.1 in
-    let waits = no_first_cause (not (is_wait_good tasks (pid_of tasks task) verb ws)) Cause.Wait _ named.1 in
+    let named = no_first_cause (has_word (is_name_bad tasks) kinds ws) Cause.Name _ live.1 in
+    let waits = no_first_cause (has_word (is_wait_bad tasks (pid_of tasks task)) kinds ws) Cause.Wait _ named.1 in
     record {
       verb = verb;
       is = is;
-      kinds = kinds_hold (first ∷ []) (kinds_of verb) ws (eqb-true (length ws) (length (kinds_of verb)) (is_not _ many.0)) word.0;
-      name = is_not _ named.0;
-      wait = is_not _ waits.0;
+      kinds = kinds_hold 3 kinds ws (eqb-true (length ws) (length kinds) (is_not _ many.0)) word.0;
+      name = named.0;
+      wait = waits.0;
       live = is_not _ live.0;
     }
 
@@ -160,7 +162,7 @@ good_words above l (t ∷ v ∷ ws) text none words task seq few =
       is = good.is;
       kinds = good.kinds;
       name = good.name;
-      wait = subst (λ (k : ℕ). is_wait_good (tasks_of above) k good.verb ws ≡ true) (sym task) good.wait;
+      wait = subst (λ (k : ℕ). has_word (is_wait_bad (tasks_of above) k) (kinds_of good.verb ws) ws ≡ false) (sym task) good.wait;
       there = subst (λ (k : ℕ). k < length (task_names above)) (sym task) live.0;
       live = subst (λ (k : ℕ). has_exit above k ≡ false) (sym task) live.1;
       kept = subst (λ (k : ℕ). is_gone (tasks_of above) k ≡ false) (sym task) live.2;

@@ -1,7 +1,6 @@
 pub mod Lists
 pub mod Tables
 pub mod GoodLines
-pub mod KindsOfWords
 pub mod GoodWrites
 pub mod LabelTables
 pub mod Tasks

@@ -5,28 +5,24 @@ use Rattle.smack_base.specs.declared.rule_op.RuleOp.{RuleOp}
 use Rattle.rules_spec.specs.Rulings.{ruling}
 use Rattle.rules_spec.specs.Creds.{is_effective}
 use Rattle.file_spec.specs.declared.Refusal.{Refusal}
-use Rattle.file_spec.specs.declared.Refusal.TheVariants as Refusal
 use Rattle.file_spec.specs.declared.Compiled.{Compiled}
-use Rattle.file_spec.specs.declared.Compiled.TheVariants as Compiled
 use Rattle.file_spec.specs.Files.{compiled}
 use Rattle.verb_spec.specs.declared.Verb.TheVariants as Verb
 use Rattle.verb_spec.specs.Words.{is_file_name}
 use Rattle.script_spec.specs.Lines.{ScriptLine, word_in, verb_in}
 use Rattle.world_spec.specs.declared.tasks.TaskCall.TheVariants as TaskCall
 use Rattle.world_spec.specs.declared.Call.{Call}
-use Rattle.world_spec.specs.declared.Call.TheVariants as Call
 use Rattle.world_spec.specs.Worlds.{creds_of}
 use Rattle.record_spec.specs.declared.AskedLine.{AskedLine}
 use Rattle.record_spec.specs.declared.AskedWhat.{AskedWhat}
-use Rattle.record_spec.specs.declared.AskedWhat.TheVariants as AskedWhat
 use Rattle.replay_spec.specs.Calls.{of_one, file_call}
 use Rattle.replay_spec.specs.declared.Act.{Act}
-use Rattle.replay_spec.specs.declared.Act.TheVariants as Act
 use Rattle.replay_spec.specs.Acts.{act_of_line, call_by}
 use Rattle.replay_spec.specs.Plain.{IsPlainOp, IsPlainBatch, IsPlainCall, IsPlainEntry, IsPlainWhat, IsPlainAsked}
 use Rattle.replay_spec.specs.Replays.{Run, run_first, number_of_task, is_before, with_asked, noted, published, stepped_by, written, after_act, after_acting, after_line, run_of}
 use Rattle.replay_spec.proofs.KnownLabels.{known_id}
-use Rattle.replay_spec.proofs.ReadCalls.{known_pid, act_words}
+use Rattle.replay_spec.proofs.ReadValues.{known_pid}
+use Rattle.replay_spec.proofs.ReadCalls.{act_words}
 use Rattle.plain_laws.proofs.PlainWrites.{compiled_is_plain}
 use Rattle.plain_laws.proofs.Lists.{all_push}
 use Rattle.plain_laws.proofs.PlainVerdicts.{answer_is_plain}

@@ -3,19 +3,14 @@ use Rattle.std.specs.List.{AllByRecursion}
 use Rattle.std.specs.Option.{IfSome}
 use Rattle.smack_base.specs.declared.ids.LabelId.{LabelId}
 use Rattle.smack_base.specs.declared.cap.Cap.{Cap}
-use Rattle.smack_base.specs.declared.cap.Cap.TheVariants as Cap
 use Rattle.rules_spec.specs.Rulings.{Ruling}
 use Rattle.rules_spec.specs.Creds.{Creds, is_effective, with_label, without_cap}
 use Rattle.world_spec.specs.declared.Question.{Question}
-use Rattle.world_spec.specs.declared.Question.TheVariants as Question
 use Rattle.world_spec.specs.declared.Part.{Part}
-use Rattle.world_spec.specs.declared.Part.TheVariants as Part
 use Rattle.world_spec.specs.declared.Why.TheVariants as Why
 use Rattle.world_spec.specs.declared.tasks.TaskCall.{TaskCall}
-use Rattle.world_spec.specs.declared.tasks.TaskCall.TheVariants as TaskCall
 use Rattle.world_spec.specs.declared.trees.TreeCall.TheVariants as TreeCall
 use Rattle.world_spec.specs.declared.Call.{Call}
-use Rattle.world_spec.specs.declared.Call.TheVariants as Call
 use Rattle.world_spec.specs.declared.Answer.{Answer}
 use Rattle.world_spec.specs.Replies.{answered}
 use Rattle.world_spec.specs.Signals.{least_signal}
@@ -119,7 +114,7 @@ module _ (table : List (List ℕ)) (first : 0 < length table) (w : World) (plain
 
   -- what a call of plain words does to the tasks has a known label
   change_is_plain : (names : List (List ℕ)) (call : TaskCall) → IsReadCall table names (Call.Task call) → IsPlainChange table (task_left w version task call).change
-  change_is_plain names (TaskCall.Relabel l) read = rw (relabelled_label (creds_of w task) version l) read
+  change_is_plain names (TaskCall.Relabel l) read = rw (relabelled_label (creds_of w task) version l) read.values.0
   change_is_plain names (TaskCall.DropCap cap) read = rw (label_without_cap (creds_of w task) cap) own_label
   change_is_plain names (TaskCall.SelfRules rules) read = own_label
   change_is_plain names (TaskCall.Relabels list) read = own_label
@@ -153,7 +148,7 @@ module _ (table : List (List ℕ)) (first : 0 < length table) (w : World) (plain
         world = record {
           tasks = plain.tasks;
           root = plain.root;
-          files = files_with_one table w.files _ plain.files (record { name = (path_has_words read.0 (n ∷ ns) read.1).0; label = own_label });
+          files = files_with_one table w.files _ plain.files (record { name = (path_has_words read.values.0.0 (n ∷ ns) read.values.0.1).0; label = own_label });
         };
         reply = tt;
       })

@@ -1,17 +1,18 @@
-use Rattle.std.proofs.Common.{◌≡◌, ◌<◌, ℕ, zero, suc, Bool, true, false, not, List, [], ◌∷◌, ◌++◌, length-append, Some, refl, sym, ap, subst, ◌∙◌, arith, append-nil, Ok}
+use Rattle.std.proofs.Common.{◌≡◌, ◌<◌, ℕ, zero, suc, true, false, List, [], ◌∷◌, ◌++◌, length-append, Some, refl, sym, ap, subst, ◌∙◌, arith, append-nil, Ok}
 use Rattle.std.specs.Prelude.{slice_index_or, codes}
 use Rattle.std.specs.List.{flat_map}
+use Rattle.std.proofs.lemmas.Bool.{or_parts}
 use Rattle.std.proofs.lemmas.Grind.{flat_map-append}
 use Rattle.text_spec.specs.Texts.{Placed}
 use Rattle.text_spec.specs.Names.{place_of, has_name}
 use Rattle.label_table.proofs.LabelTables.{once_with_new}
 use Rattle.verb_spec.specs.declared.Verb.{Verb}
-use Rattle.verb_spec.specs.declared.Verb.TheVariants as Verb
 use Rattle.verb_spec.specs.Words.{is_task_name}
+use Rattle.verb_spec.specs.Kinds.{has_word}
 use Rattle.verb_spec.specs.Verbs.{kinds_of}
 use Rattle.script_spec.specs.Lines.{ScriptLine}
 use Rattle.script_spec.specs.Tasks.{change_by, change_of, forked_name, task_names, tasks_of}
-use Rattle.script_spec.specs.Causes.{is_name_good}
+use Rattle.script_spec.specs.Causes.{is_name_bad}
 use Rattle.script_spec.specs.Grammar.{parse}
 use Rattle.replay_spec.specs.Plain.{IsNameTable}
 use Rattle.plain_laws.proofs.Lists.{all_append}
@@ -39,26 +40,18 @@ with_task names name table new is = record {
   some = omega (arith, table.some, length-append names (name ∷ []));
 }
 
-is_new : (there : Bool) → not there ≡ true → there ≡ false
-is_new true is = cc
-is_new false is = refl
-
 -- a call that forks nothing leaves the names as they are
 none_forked : (names : List (List ℕ)) → IsNameTable names → IsNameTable (names ++ [])
 none_forked names table = subst IsNameTable (sym (append-nil names)) table
 
 -- the names that a good call forks are new
 forked_are_new : (above : List ScriptLine) (l : ScriptLine) (first : Placed) (behind : List Placed) (verb : Verb) → l.words ≡ first ∷ behind
-    → AreOfKinds (first ∷ []) (kinds_of verb) behind → is_name_good (tasks_of above) verb behind ≡ true → IsNameTable (task_names above)
-    → IsNameTable (task_names above ++ forked_name (change_by (Some verb) l))
+    → AreOfKinds (kinds_of verb behind) behind → has_word (is_name_bad (tasks_of above)) (kinds_of verb behind) behind ≡ false
+    → IsNameTable (task_names above) → IsNameTable (task_names above ++ forked_name (change_by (Some verb) l))
 forked_are_new above l first [] Verb.Fork words kinds name table = absurd kinds
 forked_are_new above l first (w ∷ ws) Verb.Fork words kinds name table =
-    rw words (with_task (task_names above) w.bytes table (is_new (has_name (task_names above) w.bytes) name) kinds.0)
-forked_are_new above l first behind Verb.Write words kinds name table = none_forked (task_names above) table
-forked_are_new above l first behind Verb.Ask words kinds name table = none_forked (task_names above) table
-forked_are_new above l first behind Verb.Wait words kinds name table = none_forked (task_names above) table
-forked_are_new above l first behind Verb.Exit words kinds name table = none_forked (task_names above) table
-forked_are_new above l first behind (Verb.Call verb) words kinds name table = none_forked (task_names above) table
+    rw words (with_task (task_names above) w.bytes table (or_parts (has_name (task_names above) w.bytes) _ name).0 kinds.0)
+forked_are_new above l first behind verb words kinds name table = none_forked (task_names above) table
 
 names_grow : (above : List ScriptLine) (l : ScriptLine) → IsGoodLine above l → IsNameTable (task_names above) → IsNameTable (task_names (above ++ l ∷ []))
 names_grow above l good table =
