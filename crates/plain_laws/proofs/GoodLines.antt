@@ -1,7 +1,7 @@
-use Rattle.std.proofs.Common.{◌≡◌, ◌<◌, ◌≤◌, ℕ, ◌+◌, Bool, true, false, List, [], ◌∷◌, ◌++◌, length, refl, ap, ap₂, subst, sym, append-nil, append_assoc, Option, Some, None, Result, Ok, if◌then◌else◌, arith}
+use Rattle.std.proofs.Common.{◌≡◌, ◌<◌, ◌≤◌, ℕ, ◌+◌, Bool, true, false, List, [], ◌∷◌, ◌++◌, length, refl, ap, ap₂, subst, sym, ◌∙◌, append-nil, append_assoc, Option, Some, None, Result, Ok, if◌then◌else◌, arith}
 use Rattle.std.specs.Prelude.{nat_lt, drop, not, ◌==◌}
 use Rattle.std.specs.Option.{option_map}
-use Rattle.std.proofs.lemmas.Bool.{eqb-true, and_parts, ltb-true, ltb-false}
+use Rattle.std.proofs.lemmas.Bool.{eqb-true, and_parts, or_parts, not-true, not-false, ltb-true, ltb-false}
 use Rattle.text_spec.specs.Texts.{Placed, lines_from}
 use Rattle.text_spec.specs.Names.{place_of}
 use Rattle.verb_spec.specs.declared.Verb.{Verb}
@@ -12,8 +12,8 @@ use Rattle.script_spec.specs.declared.ScriptFault.{ScriptFault}
 use Rattle.verb_spec.specs.Verbs.{verb_of, kinds_of, kinds_by, is_unbuilt_verb}
 use Rattle.verb_spec.specs.Kinds.{is_of_kind, bad_word, has_word}
 use Rattle.verb_spec.specs.Words.{is_task_name, word_at}
-use Rattle.script_spec.specs.Lines.{ScriptLine, verb_in, words_behind, kinds_in}
-use Rattle.script_spec.specs.Tasks.{Tasks, task_names, has_exit, calls_by, tasks_of, pid_of, is_gone, is_live_name}
+use Rattle.script_spec.specs.Lines.{ScriptLine, word_in, verb_in, words_behind, kinds_in}
+use Rattle.script_spec.specs.Tasks.{Tasks, task_names, has_exit, calls_by, tasks_of, pid_of, is_gone, is_live_name, is_latest_child}
 use Rattle.script_spec.specs.Causes.{cause_if, first_cause, is_file_unbuilt, is_path_unbuilt, is_name_bad, is_wait_bad, words_cause, unless_verb, verb_cause, behind_task, line_cause}
 use Rattle.script_spec.specs.Grammar.{Item, has_text, call_of, fault_if, first_script_fault, limit_faults, item_fault, unless_script_fault, calls_of, lines_fault, items, script_of, most_bytes, most_lines, most_script_tasks, parse}
 use Rattle.replay_spec.proofs.KnownLabels.{not_refused}
@@ -44,12 +44,33 @@ pub record IsGoodLine (above : List ScriptLine) (l : ScriptLine) : Type 0 where
 pub good_verb : (above : List ScriptLine) (l : ScriptLine) (good : IsGoodLine above l) → verb_in l ≡ Some good.verb
 good_verb above l good = rw good.words good.is
 
+same_verb : (a b : Verb) → ◌≡◌ {A = Option Verb} (Some a) (Some b) → a ≡ b
+same_verb a b is = cc
+
+pub good_verb_is : (above : List ScriptLine) (l : ScriptLine) (good : IsGoodLine above l) (verb : Verb) → verb_in l ≡ Some verb → good.verb ≡ verb
+good_verb_is above l good verb is = same_verb good.verb verb (sym (good_verb above l good) ∙ is)
+
 -- and the words behind it, with their kinds
 pub good_behind : (above : List ScriptLine) (l : ScriptLine) (good : IsGoodLine above l) → words_behind l ≡ good.behind
 good_behind above l good = ap (drop 1) good.words
 
 pub good_kinds : (above : List ScriptLine) (l : ScriptLine) (good : IsGoodLine above l) → kinds_in l ≡ kinds_of good.verb good.behind
 good_kinds above l good = ap₂ kinds_by (good_verb above l good) (good_behind above l good)
+
+wait_names_child : (tasks : Tasks) (task : ℕ) (behind : List Placed) → AreOfKinds (kinds_of Verb.Wait behind) behind
+    → has_word (is_wait_bad tasks task) (kinds_of Verb.Wait behind) behind ≡ false → is_latest_child tasks task (word_at 0 behind).bytes ≡ true
+wait_names_child tasks task [] kinds wait = absurd kinds
+wait_names_child tasks task (w ∷ ws) kinds wait = not-false (is_latest_child tasks task w.bytes) (or_parts _ _ wait).0
+
+-- a good call that waits names the latest child of its task
+pub good_wait : (above : List ScriptLine) (l : ScriptLine) → IsGoodLine above l → verb_in l ≡ Some Verb.Wait
+    → is_latest_child (tasks_of above) l.task (word_in 1 l) ≡ true
+good_wait above l good is =
+    let waits = good_verb_is above l good Verb.Wait is in
+    let behind = good.behind in
+    subst (λ (w : List ℕ). is_latest_child (tasks_of above) l.task w ≡ true) (sym (ap (λ ws. (word_at 1 ws).bytes) good.words))
+    (wait_names_child (tasks_of above) l.task behind (subst (λ verb. AreOfKinds (kinds_of verb behind) behind) waits good.kinds)
+    (subst (λ verb. has_word (is_wait_bad (tasks_of above) l.task) (kinds_of verb behind) behind ≡ false) waits good.wait))
 
 abbrev pub AreGoodLines : List ScriptLine → List ScriptLine → Type 0
 AreGoodLines above [] = Unit {0}
@@ -79,14 +100,6 @@ kinds_hold k (kind ∷ kinds) (w ∷ ws) many none =
     by true good rest none = (good, rest none)
     by false good rest none = cc
 
-not_so : (b : Bool) → not b ≡ true → b ≡ false
-not_so true is = cc
-not_so false is = refl
-
-is_not : (b : Bool) → not b ≡ false → b ≡ true
-is_not true is = refl
-is_not false is = cc
-
 -- what a line without a cause has behind its task
 record IsGood (tasks : Tasks) (task : List ℕ) (first : Placed) (behind : List Placed) : Type 0 where
   verb : Verb
@@ -111,10 +124,10 @@ words_good tasks task first verb ws text is none =
     record {
       verb = verb;
       is = is;
-      kinds = kinds_hold 3 kinds ws (eqb-true (length ws) (length kinds) (is_not _ many.0)) word.0;
+      kinds = kinds_hold 3 kinds ws (eqb-true (length ws) (length kinds) (not-false _ many.0)) word.0;
       name = named.0;
       wait = waits.0;
-      live = is_not _ live.0;
+      live = not-false _ live.0;
     }
 
 unless_verb_bad : (name : List ℕ) → unless_verb name ≡ None → ⊥
@@ -141,7 +154,7 @@ live_parts above name live =
     let pid = place_of (task_names above) name in
     let parts = and_parts _ _ live in
     let there = and_parts _ _ parts.0 in
-    (ltb-true pid (length (task_names above)) there.0, not_so (has_exit above pid) there.1, not_so (is_gone (tasks_of above) pid) parts.1)
+    (ltb-true pid (length (task_names above)) there.0, not-true (has_exit above pid) there.1, not-true (is_gone (tasks_of above) pid) parts.1)
 
 -- a call of these words behind its task
 good_words : (above : List ScriptLine) (l : ScriptLine) (ws : List Placed) (text : Bool) → line_cause (tasks_of above) ws text ≡ None

@@ -1,4 +1,4 @@
-use Rattle.std.proofs.Common.{◌≡◌, true, List, [], ◌∷◌, ◌++◌, Option, Some, sym, subst, ◌∙◌}
+use Rattle.std.proofs.Common.{◌≡◌, true, List, [], ◌∷◌, ◌++◌, subst}
 use Rattle.std.specs.List.{AllByRecursion}
 use Rattle.text_spec.specs.Texts.{Placed}
 use Rattle.verb_spec.specs.declared.Verb.{Verb}
@@ -7,24 +7,21 @@ use Rattle.verb_spec.specs.Verbs.{kinds_of}
 use Rattle.script_spec.specs.Lines.{ScriptLine, table_of}
 use Rattle.script_spec.specs.Tasks.{task_names}
 use Rattle.replay_spec.specs.Laws.{ReplayedIsPlain}
-use Rattle.plain_laws.proofs.GoodLines.{AreOfKinds, IsGoodLine, good_verb, AreGoodLines, good_lines}
+use Rattle.plain_laws.proofs.GoodLines.{AreOfKinds, IsGoodLine, good_verb_is, AreGoodLines, good_lines}
 use Rattle.plain_laws.proofs.LabelTables.{labels_are_a_table, table_has_first}
 use Rattle.plain_laws.proofs.Tasks.{names_are_a_table}
 use Rattle.plain_laws.proofs.PlainRuns.{HasFileName, run_is_plain}
-
-same_verb : (a b : Verb) → ◌≡◌ {A = Option Verb} (Some a) (Some b) → a ≡ b
-same_verb a b is = cc
 
 -- the first word behind the verb of a write names a file
 write_named : (behind : List Placed) → AreOfKinds (kinds_of Verb.Write behind) behind → is_file_name (word_at 0 behind).bytes ≡ true
 write_named [] kinds = absurd kinds
 write_named (w ∷ ws) kinds = kinds.0
 
-line_named : (above : List ScriptLine) (l : ScriptLine) → IsGoodLine above l → HasFileName l
+pub line_named : (above : List ScriptLine) (l : ScriptLine) → IsGoodLine above l → HasFileName l
 line_named above l good is =
     rw good.words
     (write_named good.behind
-    (subst (λ verb. AreOfKinds (kinds_of verb good.behind) good.behind) (same_verb good.verb Verb.Write (sym (good_verb above l good) ∙ is)) good.kinds))
+    (subst (λ verb. AreOfKinds (kinds_of verb good.behind) good.behind) (good_verb_is above l good Verb.Write is) good.kinds))
 
 lines_named : (above lines : List ScriptLine) → AreGoodLines above lines → AllByRecursion HasFileName lines
 lines_named above [] good = tt
