@@ -1,5 +1,5 @@
 use Rattle.std.proofs.Common.{◌≡◌, ℕ, ◌+◌, Bool, true, false, ◌&&◌, ◌==◌, cond, nat_le, if◌then◌else◌, inl, inr, List, [], ◌∷◌, ◌++◌, length, refl, sym, ap, subst, ◌∙◌, arith, fold, append_assoc, Option, Some, None, Result, Ok, Err}
-use Rattle.std.specs.Prelude.{is_some, drop, count_by}
+use Rattle.std.specs.Prelude.{is_some, count_by}
 use Rattle.std.specs.List.{flat_map}
 use Rattle.std.proofs.lemmas.Bool.{cases_Bool, eqb-true, eqb-false, le-leb, lt-leb, leb-true, leb-false}
 use Rattle.std.proofs.lemmas.List.Sums.{sum_by-append}
@@ -9,14 +9,12 @@ use Rattle.rules_spec.specs.Rulings.{ruling}
 use Rattle.rules_spec.specs.Creds.{is_effective}
 use Rattle.text_spec.specs.Names.{predefined, has_name, with_name, with_names}
 use Rattle.file_spec.specs.declared.Refusal.{Refusal}
-use Rattle.file_spec.specs.declared.Refusal.TheVariants as Refusal
 use Rattle.file_spec.specs.declared.Compiled.{Compiled}
-use Rattle.file_spec.specs.declared.Compiled.TheVariants as Compiled
 use Rattle.file_spec.specs.Files.{compiled}
-use Rattle.verb_spec.specs.Verbs.{kinds_of}
-use Rattle.script_spec.specs.Lines.{ScriptLine, word_in, label_words, text_labels, labels_by, labels_of, table_of}
+use Rattle.verb_spec.specs.Kinds.{label_words}
+use Rattle.script_spec.specs.Lines.{ScriptLine, word_in, words_behind, kinds_in, labels_of, table_of}
 use Rattle.script_spec.specs.Grammar.{parse}
-use Rattle.script_spec.specs.Tasks.{TaskChange, Forks, Exits, Awaits, Keeps, forked_name, change_by, change_of, task_names}
+use Rattle.script_spec.specs.Tasks.{TaskChange, Forks, Exits, Awaits, Keeps, forked_name, change_of, task_names}
 use Rattle.smack_base.specs.declared.rule_op.RuleOp.{RuleOp}
 use Rattle.world_spec.specs.declared.tasks.TaskCall.TheVariants as TaskCall
 use Rattle.rules_spec.specs.declared.Batch.{Batch}
@@ -24,18 +22,15 @@ use Rattle.world_spec.specs.declared.Entry.{Entry}
 use Rattle.world_spec.specs.Steps.{step}
 use Rattle.record_spec.specs.declared.AskedWhat.{AskedWhat}
 use Rattle.world_spec.specs.declared.Call.{Call}
-use Rattle.world_spec.specs.declared.Call.TheVariants as Call
 use Rattle.world_spec.specs.Worlds.{creds_of}
 use Rattle.record_spec.specs.declared.AskedLine.{AskedLine}
-use Rattle.record_spec.specs.declared.AskedWhat.TheVariants as AskedWhat
 use Rattle.replay_spec.specs.declared.Act.{Act}
-use Rattle.replay_spec.specs.declared.Act.TheVariants as Act
-use Rattle.replay_spec.specs.Acts.{act_by, act_of_line}
+use Rattle.replay_spec.specs.Acts.{act_of_line}
 use Rattle.replay_spec.specs.Replays.{Run, run_first, number_of_task, is_before, with_asked, noted, published, stepped_by, written, after_act, after_acting, after_line, run_of}
 use Rattle.replay_spec.specs.Plain.{IsNameTable}
 use Rattle.replay_spec.specs.Laws.{EachLineIsRecorded, is_call, lines_of_task, EachCallIsOnce}
 use Rattle.plain_laws.proofs.Tables.{HasNames, has_before, has_last, has_names, both_names}
-use Rattle.plain_laws.proofs.GoodLines.{IsGoodLine, good_verb, AreGoodLines, good_lines, script_holds}
+use Rattle.plain_laws.proofs.GoodLines.{IsGoodLine, AreGoodLines, good_lines, script_holds}
 use Rattle.plain_laws.proofs.Tasks.{names_more, names_behind, names_are_a_table}
 use Rattle.replay_laws.proofs.InStep.{IsInStep, number_is_pid, line_in_step}
 use Rattle.replay_laws.proofs.KnownWords.{line_does}
@@ -153,17 +148,8 @@ pub good_line_does : (above : List ScriptLine) (l : ScriptLine) (more : List Scr
     → is_some (act_of_line (table_of (above ++ l ∷ more)) (task_names (above ++ l ∷ more)) l) ≡ true
 good_line_does above l more good =
     let labels = table_of (above ++ l ∷ more) in
-    let names = task_names (above ++ l ∷ more) in
-    let of_verb : HasNames labels (labels_by (Some good.verb) l) =
-    subst (λ verb. HasNames labels (labels_by verb l)) (good_verb above l good) (call_labels above l more) in
-    let words : HasNames labels (label_words (kinds_of good.verb) (drop 1 l.words)) =
-    (both_names labels (label_words (kinds_of good.verb) (drop 1 l.words)) (text_labels good.verb l) of_verb).0 in
-    let behind : HasNames labels (label_words (kinds_of good.verb) good.behind) =
-    subst (λ ws. HasNames labels (label_words (kinds_of good.verb) (drop 1 ws))) good.words words in
-    let forked : HasNames names (forked_name (change_by (Some good.verb) l)) =
-    subst (λ verb. HasNames names (forked_name (change_by verb l))) (good_verb above l good) (task_forked above l more) in
-    subst (λ verb. is_some (act_by labels names l verb) ≡ true) (sym (good_verb above l good))
-    (line_does labels names above l good.first good.behind good.words (tasks_above above (l ∷ more)) good.verb good.kinds behind good.name good.wait forked)
+    line_does labels (task_names (above ++ l ∷ more)) above l (tasks_above above (l ∷ more)) good
+    (both_names labels (label_words (kinds_in l) (words_behind l)) _ (call_labels above l more)).0 (task_forked above l more)
 
 -- A good call of a script, whose run is in step with the calls above it, is recorded once, by its task and its number.
 line_more : (p : ℕ → ℕ → Bool) (above : List ScriptLine) (l : ScriptLine) (more : List ScriptLine) (run : Run) → IsGoodLine above l

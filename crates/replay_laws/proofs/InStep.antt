@@ -7,37 +7,29 @@ use Rattle.smack_base.specs.declared.ids.Pid.{Pid}
 use Rattle.smack_base.specs.declared.cap.Cap.TheVariants as Cap
 use Rattle.rules_spec.specs.Rulings.{ruling}
 use Rattle.rules_spec.specs.Creds.{Creds, is_effective}
+use Rattle.text_spec.specs.Texts.{Placed}
 use Rattle.text_spec.specs.Names.{place_of, id_of}
 use Rattle.file_spec.specs.declared.Refusal.{Refusal}
-use Rattle.file_spec.specs.declared.Refusal.TheVariants as Refusal
 use Rattle.file_spec.specs.declared.Compiled.{Compiled}
-use Rattle.file_spec.specs.declared.Compiled.TheVariants as Compiled
 use Rattle.file_spec.specs.Files.{compiled}
 use Rattle.verb_spec.specs.declared.CallVerb.{CallVerb}
-use Rattle.verb_spec.specs.declared.CallVerb.TheVariants as CallVerb
 use Rattle.verb_spec.specs.declared.Verb.{Verb}
-use Rattle.verb_spec.specs.declared.Verb.TheVariants as Verb
-use Rattle.world_spec.specs.declared.tasks.TaskVerb.{TaskVerb}
-use Rattle.world_spec.specs.declared.tasks.TaskVerb.TheVariants as TaskVerb
-use Rattle.world_spec.specs.declared.tasks.TraceWay.{TraceWay}
-use Rattle.world_spec.specs.declared.tasks.TraceWay.TheVariants as TraceWay
-use Rattle.script_spec.specs.Lines.{ScriptLine, word_in, verb_in}
+use Rattle.script_spec.specs.Lines.{ScriptLine, word_in, verb_in, words_behind}
 use Rattle.script_spec.specs.Tasks.{forked_name, is_exit, change_by, change_of, has_exit, task_names}
 use Rattle.world_spec.specs.declared.tasks.TaskCall.{TaskCall}
-use Rattle.world_spec.specs.declared.tasks.TaskCall.TheVariants as TaskCall
 use Rattle.world_spec.specs.declared.Call.{Call}
-use Rattle.world_spec.specs.declared.Call.TheVariants as Call
 use Rattle.world_spec.specs.Worlds.{TaskRow, task_begun, was_made, is_live, creds_of, with_child, without_life, most_tasks}
 use Rattle.record_spec.specs.declared.AskedWhat.TheVariants as AskedWhat
 use Rattle.replay_spec.specs.declared.Act.{Act}
-use Rattle.replay_spec.specs.declared.Act.TheVariants as Act
-use Rattle.verb_spec.specs.Values.{pid_in, modes_in}
-use Rattle.replay_spec.specs.Calls.{of_one, traced, task_call, tree_call}
-use Rattle.verb_spec.specs.Verbs.{made_call}
+use Rattle.verb_spec.specs.Values.{pid_in, modes_in, values_behind}
+use Rattle.replay_spec.specs.Calls.{of_one}
+use Rattle.verb_spec.specs.Verbs.{verb_of, call_kinds, call_from, made_call, call_verb}
+use Rattle.verb_spec.proofs.Fitting.{values_fit}
+use Rattle.verb_spec.proofs.Verbs.{call_made, values_of_made}
 use Rattle.replay_spec.specs.Acts.{act_by}
 use Rattle.replay_spec.specs.Plain.{IsNameTable}
 use Rattle.replay_spec.specs.Replays.{Run, or_none_yet, number_of_task, noted, published, stepped_by, written, after_act, after_acting, after_line}
-use Rattle.replay_spec.proofs.ReadCalls.{of_none_holds, of_one_holds, of_two_holds, of_three_holds}
+use Rattle.replay_spec.proofs.ReadCalls.{of_none_holds, of_one_holds, of_three_holds}
 use Rattle.plain_laws.proofs.GoodLines.{IsGoodLine, good_verb}
 use Rattle.plain_laws.proofs.Tasks.{names_more, names_behind}
 use Rattle.replay_laws.proofs.Numbers.{AreNumbered, AreKept, IsQuiet, same_exits, exit_numbered, push_numbered, live_numbered, none_made, row_is_live, quiet_kept, exit_done, fork_done}
@@ -45,40 +37,28 @@ use Rattle.world_laws.proofs.Changes.{length_changed}
 
 -- a verb whose calls neither make a task nor end one
 abbrev pub IsQuietVerb : Verb → Type 0
-IsQuietVerb Verb.Write = Unit {0}
-IsQuietVerb Verb.Ask = Unit {0}
-IsQuietVerb Verb.Wait = Unit {0}
 IsQuietVerb Verb.Fork = ⊥
 IsQuietVerb Verb.Exit = ⊥
-IsQuietVerb (Verb.Call verb) = Unit {0}
+IsQuietVerb verb = Unit {0}
 
--- nor does a call of such a verb
-abbrev QuietTask : TaskCall → Type 0
-QuietTask call = IsQuiet (Call.Task call)
+-- a call that is told by the name of a verb of object calls is quiet
+named_quiet : (verb : CallVerb) (c : Call) → verb_of (call_verb c) ≡ Some (Verb.Call verb) → IsQuiet c
+named_quiet verb (Call.Task (TaskCall.Fork pid)) named = absurd cc
+named_quiet verb (Call.Task TaskCall.Exit) named = absurd cc
+named_quiet verb c named = tt
 
-traced_quiet : (way : TraceWay) (pid : Pid) → QuietTask (traced way pid)
-traced_quiet TraceWay.Read pid = tt
-traced_quiet TraceWay.Attach pid = tt
-
-task_quiet : (labels names : List (List ℕ)) (l : ScriptLine) (verb : TaskVerb) (c : TaskCall) → task_call labels names l verb ≡ Some c → QuietTask c
-task_quiet labels names l TaskVerb.Relabel c is = of_one_holds QuietTask _ _ c (λ x told. tt) is
-task_quiet labels names l TaskVerb.Drop c is = of_one_holds QuietTask _ _ c (λ x told. tt) is
-task_quiet labels names l TaskVerb.Kill c is = of_two_holds QuietTask _ _ _ c (λ x y told told'. tt) is
-task_quiet labels names l TaskVerb.Take c is = of_none_holds QuietTask TaskCall.Take c tt is
-task_quiet labels names l TaskVerb.Trace c is = of_two_holds QuietTask _ _ traced c (λ x y told told'. traced_quiet x y) is
-
-pub made_quiet : (labels names : List (List ℕ)) (l : ScriptLine) (verb : CallVerb) (c : Call) → made_call labels names l verb ≡ Some c → IsQuiet c
-made_quiet labels names l (CallVerb.Task verb) c is =
-    of_one_holds IsQuiet (task_call labels names l verb) (λ t. Call.Task t) c (task_quiet labels names l verb) is
-made_quiet labels names l (CallVerb.Tree verb) c is = of_one_holds IsQuiet (tree_call l verb) (λ t. Call.Tree t) c (λ t told. tt) is
+-- so is one that words make
+pub made_quiet : (labels names : List (List ℕ)) (verb : CallVerb) (ws : List Placed) (c : Call) → made_call labels names verb ws ≡ Some c → IsQuiet c
+made_quiet labels names verb ws c is =
+    let parts = values_of_made (call_from verb) (values_behind labels names (call_kinds verb ws) ws) c is in
+    let fit = values_fit labels names (call_kinds verb ws) ws parts.0 parts.1 in
+    named_quiet verb c (call_made verb ws parts.0 c fit parts.2).named
 
 -- nor does what a line of such a verb does
 abbrev IsQuietAct : Act → Type 0
-IsQuietAct Act.Write = Unit {0}
-IsQuietAct (Act.Ask s o m) = Unit {0}
-IsQuietAct (Act.Wait pid) = Unit {0}
 IsQuietAct (Act.Fork pid) = ⊥
 IsQuietAct (Act.Make call) = IsQuiet call
+IsQuietAct act = Unit {0}
 
 verb_quiet : (labels names : List (List ℕ)) (l : ScriptLine) (verb : Verb) → IsQuietVerb verb → (act : Act)
     → act_by labels names l (Some verb) ≡ Some act → IsQuietAct act
@@ -91,7 +71,7 @@ verb_quiet labels names l Verb.Wait quiet act is =
 verb_quiet labels names l Verb.Fork quiet act is = absurd quiet
 verb_quiet labels names l Verb.Exit quiet act is = absurd quiet
 verb_quiet labels names l (Verb.Call verb) quiet act is =
-    of_one_holds IsQuietAct (made_call labels names l verb) (λ c. Act.Make c) act (made_quiet labels names l verb) is
+    of_one_holds IsQuietAct (made_call labels names verb (words_behind l)) (λ c. Act.Make c) act (made_quiet labels names verb (words_behind l)) is
 
 -- the tasks of a run are in step with the calls so far: as many as were forked, each with its pid as its number, live
 -- until it exits
@@ -160,22 +140,18 @@ module _ (labels : List (List ℕ)) (exited : ℕ → Bool) (run : Run) (l : Scr
 
   act_kept : (act : Act) → IsQuietAct act → AreKept exited run.world.tasks (after_act labels run l act).world.tasks
   act_kept Act.Write quiet = written_kept (compiled labels (word_in 1 l) l.text.bytes)
-  act_kept (Act.Ask s o m) quiet = same
-  act_kept (Act.Wait pid) quiet = same
   act_kept (Act.Fork pid) quiet = absurd quiet
   act_kept (Act.Make call) quiet = step_kept call quiet
+  act_kept act quiet = same
 
   acting_kept : (act : Option Act) → ((a : Act) → act ≡ Some a → IsQuietAct a) → AreKept exited run.world.tasks (after_acting labels run l act).world.tasks
   acting_kept None quiet = same
   acting_kept (Some act) quiet = act_kept act (quiet act refl)
 
 quiet_change : (l : ScriptLine) (verb : Verb) → IsQuietVerb verb → (is_exit (change_by (Some verb) l) ≡ false) × (forked_name (change_by (Some verb) l) ≡ [])
-quiet_change l Verb.Write quiet = (refl, refl)
-quiet_change l Verb.Ask quiet = (refl, refl)
-quiet_change l Verb.Wait quiet = (refl, refl)
 quiet_change l Verb.Fork quiet = absurd quiet
 quiet_change l Verb.Exit quiet = absurd quiet
-quiet_change l (Verb.Call verb) quiet = (refl, refl)
+quiet_change l verb quiet = (refl, refl)
 
 -- tasks that are kept are in step with one more quiet call
 quiet_in_step : (above : List ScriptLine) (l : ScriptLine) (before after : List TaskRow) → l.task < length (task_names above) → IsInStep above before
@@ -277,9 +253,6 @@ module _ (labels names : List (List ℕ)) (above : List ScriptLine) (l : ScriptL
 
   pub verb_in_step : (verb : Verb) → verb_in l ≡ Some verb → IsNameTable names → (rest : List (List ℕ))
       → names ≡ (task_names above ++ forked_name (change_of l)) ++ rest → After verb
-  verb_in_step Verb.Write is_verb table rest whole = quietly Verb.Write is_verb tt
-  verb_in_step Verb.Ask is_verb table rest whole = quietly Verb.Ask is_verb tt
-  verb_in_step Verb.Wait is_verb table rest whole = quietly Verb.Wait is_verb tt
   verb_in_step Verb.Fork is_verb table rest whole =
       let one : forked_name (change_of l) ≡ word_in 1 l ∷ [] = ap (λ v. forked_name (change_by v l)) is_verb in
       let few : length (task_names above) < most_tasks =
@@ -295,7 +268,7 @@ module _ (labels names : List (List ℕ)) (above : List ScriptLine) (l : ScriptL
       (ap (λ v. is_exit (change_by v l)) is_verb) one few
   verb_in_step Verb.Exit is_verb table rest whole =
       exits (ap (λ v. is_exit (change_by v l)) is_verb) (ap (λ v. forked_name (change_by v l)) is_verb)
-  verb_in_step (Verb.Call verb) is_verb table rest whole = quietly (Verb.Call verb) is_verb tt
+  verb_in_step verb is_verb table rest whole = quietly verb is_verb tt
 
 -- the run after a good call of a script is in step with the calls up to it
 pub line_in_step : (above : List ScriptLine) (l : ScriptLine) (more : List ScriptLine) (labels : List (List ℕ)) (run : Run) → IsGoodLine above l

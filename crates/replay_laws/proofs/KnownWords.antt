@@ -1,37 +1,32 @@
-use Rattle.std.proofs.Common.{◌≡◌, ◌<◌, ◌≤◌, ℕ, Bool, true, false, ◌&&◌, ◌==◌, not, cond, if◌then◌else◌, List, [], ◌∷◌, ◌++◌, length, refl, arith, Option, Some, None, Result, Ok, Err}
+use Rattle.std.proofs.Common.{◌≡◌, ◌<◌, ◌≤◌, ℕ, Bool, true, false, ◌&&◌, ◌==◌, not, cond, if◌then◌else◌, List, [], ◌∷◌, ◌++◌, length, refl, sym, subst, ap₂, arith, Option, Some, None, Result, Ok, Err}
 use Rattle.std.specs.Prelude.{is_some, is_ok, map}
-use Rattle.std.specs.List.{flat_map, filter}
+use Rattle.std.specs.List.{flat_map, filter, list_all}
+use Rattle.std.specs.Option.{IfSome}
 use Rattle.std.specs.Result.{result_ok}
-use Rattle.std.proofs.lemmas.Bool.{and_parts, eqb-true, lt-ltb}
+use Rattle.std.proofs.lemmas.Bool.{and_parts, or_parts, not-false, eqb-true, lt-ltb}
 use Rattle.std.proofs.lemmas.List.{length-reverse, length-map}
 use Rattle.smack_base.specs.Modes.{is_modes}
 use Rattle.smack_base.specs.Paths.{path_of}
 use Rattle.text_spec.specs.Texts.{Placed}
 use Rattle.text_spec.specs.Names.{place_of, has_name, id_of}
 use Rattle.verb_spec.specs.declared.CallVerb.{CallVerb}
-use Rattle.verb_spec.specs.declared.CallVerb.TheVariants as CallVerb
 use Rattle.verb_spec.specs.declared.Verb.{Verb}
-use Rattle.verb_spec.specs.declared.Verb.TheVariants as Verb
-use Rattle.world_spec.specs.declared.tasks.TaskVerb.{TaskVerb}
-use Rattle.world_spec.specs.declared.tasks.TaskVerb.TheVariants as TaskVerb
-use Rattle.world_spec.specs.declared.trees.TreeVerb.{TreeVerb}
-use Rattle.world_spec.specs.declared.trees.TreeVerb.TheVariants as TreeVerb
+use Rattle.verb_spec.specs.declared.Value.{Value}
 use Rattle.verb_spec.specs.declared.WordKind.{WordKind}
-use Rattle.verb_spec.specs.declared.WordKind.TheVariants as WordKind
-use Rattle.verb_spec.specs.TaskVerbs.{task_kinds}
-use Rattle.verb_spec.specs.TreeVerbs.{tree_kinds}
-use Rattle.verb_spec.specs.Verbs.{call_kinds, kinds_of}
-use Rattle.verb_spec.specs.Words.{cap_of, number_of, signal_of, trace_way_of, word_at}
-use Rattle.script_spec.specs.Lines.{ScriptLine, word_in, label_words}
+use Rattle.verb_spec.specs.Words.{cap_of, number_of, signal_of, trace_way_of}
+use Rattle.verb_spec.specs.Kinds.{is_of_kind, has_word, label_words}
+use Rattle.verb_spec.specs.Values.{path_in, pid_in, modes_in, value_in, with_value, values_behind}
+use Rattle.verb_spec.specs.Verbs.{call_kinds, kinds_of, call_from, from_values, made_call}
+use Rattle.verb_spec.proofs.Fitting.{all_fit, values_fit}
+use Rattle.verb_spec.proofs.Verbs.{call_found}
+use Rattle.script_spec.specs.Lines.{ScriptLine, word_in, words_behind, kinds_in}
 use Rattle.script_spec.specs.Tasks.{TaskChange, Forks, Exits, Awaits, Keeps, forked_name, is_fork, change_by, change_of, parents_in, task_names, tasks_of, pid_of, latest_child, is_pid, is_latest_child}
-use Rattle.script_spec.specs.Causes.{is_task_name_good, is_name_good, is_wait_good}
-use Rattle.verb_spec.specs.Values.{path_in, pid_in, modes_in}
-use Rattle.replay_spec.specs.Calls.{of_one, of_two, of_three, traced, task_call, tree_call}
-use Rattle.verb_spec.specs.Verbs.{made_call}
-use Rattle.replay_spec.specs.Acts.{act_by}
+use Rattle.script_spec.specs.Causes.{is_name_bad, is_wait_bad}
+use Rattle.replay_spec.specs.Calls.{of_one, of_three}
+use Rattle.replay_spec.specs.Acts.{act_by, act_of_line}
 use Rattle.plain_laws.proofs.Tables.{HasNames}
-use Rattle.plain_laws.proofs.KindsOfWords.{kind_1, kind_2, kind_3}
-use Rattle.plain_laws.proofs.GoodLines.{AreOfKinds}
+use Rattle.plain_laws.proofs.GoodLines.{AreOfKinds, IsGoodLine, good_verb, good_behind, good_kinds}
+use Rattle.replay_laws.proofs.CallKinds.{is_found_kind, has_found_kinds, verb_found}
 
 -- a name that a table has is found in it
 found_label : (labels : List (List ℕ)) (word : List ℕ) → has_name labels word ≡ true → is_some (id_of labels word) ≡ true
@@ -45,16 +40,16 @@ made_of_one : {A C : Type 0} (a : Option A) (make : A → C) → is_some a ≡ t
 made_of_one None make found = cc
 made_of_one (Some x) make found = refl
 
-made_of_two : {A B C : Type 0} (a : Option A) (b : Option B) (make : A → B → C) → is_some a ≡ true → is_some b ≡ true → is_some (of_two a b make) ≡ true
-made_of_two None b make found found' = cc
-made_of_two (Some x) None make found found' = cc
-made_of_two (Some x) (Some y) make found found' = refl
-
 made_of_three : {A B C D : Type 0} (a : Option A) (b : Option B) (c : Option C) (make : A → B → C → D) → is_some a ≡ true → is_some b ≡ true
     → is_some c ≡ true → is_some (of_three a b c make) ≡ true
 made_of_three None b c make found found' last = cc
 made_of_three (Some x) None c make found found' last = cc
 made_of_three (Some x) (Some y) c make found found' last = made_of_one c (make x y) last
+
+both_values : (first : Option Value) (rest : Option (List Value)) → is_some first ≡ true → is_some rest ≡ true → is_some (with_value first rest) ≡ true
+both_values None rest found found' = cc
+both_values (Some v) None found found' = cc
+both_values (Some v) (Some vs) found found' = refl
 
 found_path : {A F : Type 0} (r : Result A F) → is_ok r ≡ true → is_some (result_ok r) ≡ true
 found_path (Ok x) good = refl
@@ -103,63 +98,100 @@ child_has_name above task name is =
 found_modes : (word : List ℕ) → is_modes word ≡ true → is_some (modes_in word) ≡ true
 found_modes word are = rw are refl
 
--- the words that stand for labels are known
-label_1 : (labels : List (List ℕ)) (l : ScriptLine) (first : Placed) (ds : List WordKind) (behind : List Placed) → l.words ≡ first ∷ behind
-    → AreOfKinds (first ∷ []) (WordKind.Label ∷ ds) behind → HasNames labels (label_words (WordKind.Label ∷ ds) behind) → has_name labels (word_in 1 l) ≡ true
-label_1 labels l first ds [] words kinds known = absurd kinds
-label_1 labels l first ds (w ∷ ws) words kinds known = rw words known.0
+-- a word that stands for a label is known
+abbrev IsKnownLabel : List (List ℕ) → WordKind → List ℕ → Type 0
+IsKnownLabel labels WordKind.Label word = has_name labels word ≡ true
+IsKnownLabel labels kind word = Unit {0}
 
-label_2 : (labels : List (List ℕ)) (l : ScriptLine) (first : Placed) (ds : List WordKind) (behind : List Placed) → l.words ≡ first ∷ behind
-    → AreOfKinds (first ∷ []) (WordKind.Label ∷ WordKind.Label ∷ ds) behind → HasNames labels (label_words (WordKind.Label ∷ WordKind.Label ∷ ds) behind)
-    → has_name labels (word_in 2 l) ≡ true
-label_2 labels l first ds [] words kinds known = absurd kinds
-label_2 labels l first ds (w ∷ []) words kinds known = absurd kinds.1
-label_2 labels l first ds (w ∷ v ∷ ws) words kinds known = rw words known.1.0
+-- the first of some words, and the others
+known_labels : (labels : List (List ℕ)) (kind : WordKind) (kinds : List WordKind) (w : Placed) (ws : List Placed)
+    → HasNames labels (label_words (kind ∷ kinds) (w ∷ ws)) → IsKnownLabel labels kind w.bytes × HasNames labels (label_words kinds ws)
+known_labels labels WordKind.Label kinds w ws known = known
+known_labels labels kind kinds w ws known = (tt, known)
 
--- Each word that a verb takes is found, where the labels of the call and the tasks above it are known, and the task that
--- it forks.
-module _ (labels names : List (List ℕ)) (above : List ScriptLine) (l : ScriptLine) (first : Placed) (behind : List Placed) (words : l.words ≡ first ∷ behind) (tasks : (name : List ℕ) → has_name (task_names above) name ≡ true → has_name names name ≡ true) where
-  found_path_1 : (ds : List WordKind) → AreOfKinds (first ∷ []) (WordKind.Path ∷ ds) behind → is_some (path_in (word_in 1 l)) ≡ true
-  found_path_1 ds kinds = found_path (path_of (word_in 1 l)) (kind_1 l first WordKind.Path ds behind words kinds)
+-- values that fit the kinds of a verb's words make its call
+made_from : (verb : CallVerb) (ws : List Placed) (values : Option (List Value)) → is_some values ≡ true
+    → ((vs : List Value) → values ≡ Some vs → all_fit (call_kinds verb ws) vs ≡ true) → is_some (from_values (call_from verb) values) ≡ true
+made_from verb ws None found fit = cc
+made_from verb ws (Some vs) found fit = call_found verb ws vs (fit vs refl)
 
-  task_call_is_made : (verb : TaskVerb) → AreOfKinds (first ∷ []) (task_kinds verb) behind → HasNames labels (label_words (task_kinds verb) behind)
-      → is_task_name_good (tasks_of above) verb behind ≡ true → is_some (task_call labels names l verb) ≡ true
-  task_call_is_made TaskVerb.Relabel kinds known name =
-      made_of_one (id_of labels (word_in 1 l)) _ (found_label labels (word_in 1 l) (label_1 labels l first [] behind words kinds known))
-  task_call_is_made TaskVerb.Drop kinds known name = made_of_one (cap_of (word_in 1 l)) _ (kind_1 l first WordKind.Capability [] behind words kinds)
-  task_call_is_made TaskVerb.Kill kinds known name =
-      made_of_two (pid_in names (word_in 1 l)) (signal_of (word_in 2 l)) _ (found_task names (word_in 1 l) (rw words (tasks (word_at 0 behind).bytes name)))
-      (kind_2 l first WordKind.TaskName WordKind.Signal [] behind words kinds).1
-  task_call_is_made TaskVerb.Take kinds known name = refl
-  task_call_is_made TaskVerb.Trace kinds known name =
-      made_of_two (trace_way_of (word_in 1 l)) (pid_in names (word_in 2 l)) traced
-      (and_parts _ (is_some (trace_way_of (word_in 1 l))) (kind_1 l first WordKind.Way (WordKind.TaskName ∷ []) behind words kinds)).1
-      (found_task names (word_in 2 l) (rw words (tasks (word_at 1 behind).bytes name)))
+-- Each word behind a verb is read, where the labels of the call and the tasks above it are known, and the task that it
+-- forks.
+module _ (labels names : List (List ℕ)) (above : List ScriptLine) (task : ℕ) (tasks : (name : List ℕ) → has_name (task_names above) name ≡ true → has_name names name ≡ true) where
+  -- a row for each kind
+  value_found : (kind : WordKind) (word : List ℕ) → is_found_kind kind ≡ true → is_of_kind kind word ≡ true → IsKnownLabel labels kind word
+      → is_name_bad (tasks_of above) kind word ≡ false → is_wait_bad (tasks_of above) task kind word ≡ false
+      → is_some (value_in labels names kind word) ≡ true
+  value_found WordKind.Label word there is known name wait = made_of_one (id_of labels word) _ (found_label labels word known)
+  value_found WordKind.Modes word there is known name wait = made_of_one (modes_in word) _ (found_modes word is)
+  value_found WordKind.File word there is known name wait = absurd cc
+  value_found WordKind.Lines word there is known name wait = absurd cc
+  value_found WordKind.Number word there is known name wait = made_of_one (number_of word) _ is
+  value_found WordKind.Path word there is known name wait = made_of_one (path_in word) _ (found_path (path_of word) is)
+  value_found WordKind.Capability word there is known name wait = made_of_one (cap_of word) _ is
+  value_found WordKind.NewTask word there is known name wait = absurd cc
+  value_found WordKind.KnownTask word there is known name wait =
+      made_of_one (pid_in names word) _ (found_task names word (tasks word (not-false (has_name (task_names above) word) name)))
+  value_found WordKind.Child word there is known name wait =
+      made_of_one (pid_in names word) _
+      (found_task names word (tasks word (child_has_name above task word (not-false (is_latest_child (tasks_of above) task word) wait))))
+  value_found WordKind.Signal word there is known name wait = made_of_one (signal_of word) _ is
+  value_found WordKind.TraceWay word there is known name wait = made_of_one (trace_way_of word) _ is
 
-  tree_call_is_made : (verb : TreeVerb) → AreOfKinds (first ∷ []) (tree_kinds verb) behind → is_some (tree_call l verb) ≡ true
-  tree_call_is_made TreeVerb.Create kinds = made_of_one (path_in (word_in 1 l)) _ (found_path_1 [] kinds)
-  tree_call_is_made TreeVerb.Unlink kinds = made_of_one (path_in (word_in 1 l)) _ (found_path_1 [] kinds)
-  tree_call_is_made TreeVerb.List kinds =
-      made_of_two (path_in (word_in 1 l)) (number_of (word_in 2 l)) _ (found_path_1 (WordKind.Number ∷ []) kinds)
-      (kind_2 l first WordKind.Path WordKind.Number [] behind words kinds).1
+  values_found : (kinds : List WordKind) (ws : List Placed) → list_all is_found_kind kinds ≡ true → AreOfKinds kinds ws
+      → HasNames labels (label_words kinds ws) → has_word (is_name_bad (tasks_of above)) kinds ws ≡ false
+      → has_word (is_wait_bad (tasks_of above) task) kinds ws ≡ false → is_some (values_behind labels names kinds ws) ≡ true
+  values_found [] ws there are known name wait = refl
+  values_found (kind ∷ kinds) [] there are known name wait = absurd are
+  values_found (kind ∷ kinds) (w ∷ ws) there are known name wait =
+      let there' = and_parts (is_found_kind kind) (list_all is_found_kind kinds) there in
+      let known' = known_labels labels kind kinds w ws known in
+      let name' = or_parts (is_name_bad (tasks_of above) kind w.bytes) (has_word (is_name_bad (tasks_of above)) kinds ws) name in
+      let wait' = or_parts (is_wait_bad (tasks_of above) task kind w.bytes) (has_word (is_wait_bad (tasks_of above) task) kinds ws) wait in
+      both_values (value_in labels names kind w.bytes) (values_behind labels names kinds ws)
+      (value_found kind w.bytes there'.0 are.0 known'.0 name'.0 wait'.0) (values_found kinds ws there'.1 are.1 known'.1 name'.1 wait'.1)
 
-  made_call_is_made : (verb : CallVerb) → AreOfKinds (first ∷ []) (call_kinds verb) behind → HasNames labels (label_words (call_kinds verb) behind)
-      → is_name_good (tasks_of above) (Verb.Call verb) behind ≡ true → is_some (made_call labels names l verb) ≡ true
-  made_call_is_made (CallVerb.Task verb) kinds known name = made_of_one (task_call labels names l verb) _ (task_call_is_made verb kinds known name)
-  made_call_is_made (CallVerb.Tree verb) kinds known name = made_of_one (tree_call l verb) _ (tree_call_is_made verb kinds)
+  call_is_made : (verb : CallVerb) (ws : List Placed) → list_all is_found_kind (call_kinds verb ws) ≡ true → AreOfKinds (call_kinds verb ws) ws
+      → HasNames labels (label_words (call_kinds verb ws) ws) → has_word (is_name_bad (tasks_of above)) (call_kinds verb ws) ws ≡ false
+      → has_word (is_wait_bad (tasks_of above) task) (call_kinds verb ws) ws ≡ false → is_some (made_call labels names verb ws) ≡ true
+  call_is_made verb ws there are known name wait =
+      made_from verb ws (values_behind labels names (call_kinds verb ws) ws) (values_found (call_kinds verb ws) ws there are known name wait)
+      (values_fit labels names (call_kinds verb ws) ws)
 
-  pub line_does : (verb : Verb) → AreOfKinds (first ∷ []) (kinds_of verb) behind → HasNames labels (label_words (kinds_of verb) behind)
-      → is_name_good (tasks_of above) verb behind ≡ true → is_wait_good (tasks_of above) l.task verb behind ≡ true
-      → HasNames names (forked_name (change_by (Some verb) l)) → is_some (act_by labels names l (Some verb)) ≡ true
-  line_does Verb.Write kinds known name wait forked = refl
-  line_does Verb.Ask kinds known name wait forked =
-      made_of_three (id_of labels (word_in 1 l)) (id_of labels (word_in 2 l)) (modes_in (word_in 3 l)) _
-      (found_label labels (word_in 1 l) (label_1 labels l first (WordKind.Label ∷ WordKind.Modes ∷ []) behind words kinds known))
-      (found_label labels (word_in 2 l) (label_2 labels l first (WordKind.Modes ∷ []) behind words kinds known))
-      (found_modes (word_in 3 l) (kind_3 l first WordKind.Label WordKind.Label WordKind.Modes [] behind words kinds).1)
-  line_does Verb.Wait kinds known name wait forked =
-      made_of_one (pid_in names (word_in 1 l)) _
-      (found_task names (word_in 1 l) (rw words (tasks (word_at 0 behind).bytes (child_has_name above l.task (word_at 0 behind).bytes wait))))
-  line_does Verb.Fork kinds known name wait forked = made_of_one (pid_in names (word_in 1 l)) _ (found_task names (word_in 1 l) forked.0)
-  line_does Verb.Exit kinds known name wait forked = refl
-  line_does (Verb.Call verb) kinds known name wait forked = made_of_one (made_call labels names l verb) _ (made_call_is_made verb kinds known name)
+-- a line of a verb and words that are good does something
+module _ (labels names : List (List ℕ)) (above : List ScriptLine) (l : ScriptLine) (tasks : (name : List ℕ) → has_name (task_names above) name ≡ true → has_name names name ≡ true) where
+  verb_does : (verb : Verb) (first : Placed) (ws : List Placed) → has_found_kinds ws verb ≡ true → l.words ≡ first ∷ ws → AreOfKinds (kinds_of verb ws) ws
+      → HasNames labels (label_words (kinds_of verb ws) ws) → has_word (is_name_bad (tasks_of above)) (kinds_of verb ws) ws ≡ false
+      → has_word (is_wait_bad (tasks_of above) l.task) (kinds_of verb ws) ws ≡ false → HasNames names (forked_name (change_by (Some verb) l))
+      → is_some (act_by labels names l (Some verb)) ≡ true
+  verb_does Verb.Write first ws there words are known name wait forked = refl
+  verb_does Verb.Ask first (w ∷ []) there words are known name wait forked = absurd are.1
+  verb_does Verb.Ask first (w ∷ v ∷ []) there words are known name wait forked = absurd are.1.1
+  verb_does Verb.Ask first (w ∷ v ∷ u ∷ ws) there words are known name wait forked =
+      rw words
+      (made_of_three (id_of labels w.bytes) (id_of labels v.bytes) (modes_in u.bytes) _ (found_label labels w.bytes known.0)
+      (found_label labels v.bytes known.1.0) (found_modes u.bytes are.1.1.0))
+  verb_does Verb.Wait first (w ∷ ws) there words are known name wait forked =
+      rw words
+      (made_of_one (pid_in names w.bytes) _
+      (found_task names w.bytes (tasks w.bytes
+      (child_has_name above l.task w.bytes (not-false (is_latest_child (tasks_of above) l.task w.bytes) (or_parts _ _ wait).0)))))
+  verb_does Verb.Fork first ws there words are known name wait forked =
+      made_of_one (pid_in names (word_in 1 l)) _ (found_task names (word_in 1 l) forked.0)
+  verb_does Verb.Exit first ws there words are known name wait forked = refl
+  verb_does (Verb.Call verb) first ws there words are known name wait forked =
+      rw words (made_of_one (made_call labels names verb ws) _ (call_is_made labels names above l.task tasks verb ws there are known name wait))
+  verb_does verb first ws there words are known name wait forked = absurd are
+
+  pub line_does : (good : IsGoodLine above l) → HasNames labels (label_words (kinds_in l) (words_behind l)) → HasNames names (forked_name (change_of l))
+      → is_some (act_of_line labels names l) ≡ true
+  line_does good known forked =
+      let behind = good.behind in
+      let there : has_found_kinds behind good.verb ≡ true =
+      subst (λ told. IfSome told (λ verb. has_found_kinds behind verb ≡ true)) good.is (verb_found behind good.first.bytes) in
+      let words : HasNames labels (label_words (kinds_of good.verb behind) behind) =
+      subst (HasNames labels) (ap₂ label_words (good_kinds above l good) (good_behind above l good)) known in
+      let one : HasNames names (forked_name (change_by (Some good.verb) l)) =
+      subst (λ verb. HasNames names (forked_name (change_by verb l))) (good_verb above l good) forked in
+      subst (λ verb. is_some (act_by labels names l verb) ≡ true) (sym (good_verb above l good))
+      (verb_does good.verb good.first behind there good.words good.kinds words good.name good.wait one)

@@ -1,3 +1,4 @@
+pub mod CallKinds
 pub mod KnownWords
 pub mod Numbers
 pub mod InStep
