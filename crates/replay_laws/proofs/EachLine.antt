@@ -127,9 +127,7 @@ tasks_above above more name has =
 
 forked_has : (names : List (List ℕ)) (change : TaskChange) → HasNames (names ++ forked_name change) (forked_name change)
 forked_has names (Forks name) = (has_last names name, tt)
-forked_has names Exits = tt
-forked_has names (Awaits name) = tt
-forked_has names Keeps = tt
+forked_has names change = tt
 
 all_before : (front back names : List (List ℕ)) → HasNames front names → HasNames (front ++ back) names
 all_before front back [] has = tt

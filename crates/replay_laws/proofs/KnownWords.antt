@@ -65,9 +65,7 @@ forks_counted (l ∷ ls) = by (change_of l) (forks_counted ls)
         → length (cond (is_fork change) (l ∷ filter (λ l. is_fork (change_of l)) ls) (filter (λ l. is_fork (change_of l)) ls))
         ≡ length (forked_name change ++ flat_map (λ l. forked_name (change_of l)) ls)
     by (Forks name) rest = omega (arith, rest)
-    by Exits rest = rest
-    by (Awaits name) rest = rest
-    by Keeps rest = rest
+    by change rest = rest
 
 parents_counted : (above : List ScriptLine) → length (parents_in above) < length (task_names above)
 parents_counted above =
