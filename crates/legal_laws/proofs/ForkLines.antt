@@ -6,16 +6,13 @@ use Rattle.std.proofs.lemmas.List.Elements.{filter-append}
 use Rattle.smack_base.specs.declared.ids.Pid.{Pid}
 use Rattle.file_spec.specs.declared.Refusal.{Refusal}
 use Rattle.file_spec.specs.declared.Compiled.{Compiled}
-use Rattle.file_spec.specs.declared.Compiled.TheVariants as Compiled
 use Rattle.file_spec.specs.Files.{compiled}
 use Rattle.verb_spec.specs.declared.Verb.TheVariants as Verb
-use Rattle.script_spec.specs.Lines.{ScriptLine, word_in, verb_in}
+use Rattle.script_spec.specs.Lines.{ScriptLine, word_in, verb_in, words_behind}
 use Rattle.script_spec.specs.Tasks.{change_of, is_fork, parents_in, task_names}
 use Rattle.world_spec.specs.declared.tasks.TaskCall.TheVariants as TaskCall
 use Rattle.world_spec.specs.declared.Call.{Call}
-use Rattle.world_spec.specs.declared.Call.TheVariants as Call
 use Rattle.replay_spec.specs.declared.Act.{Act}
-use Rattle.replay_spec.specs.declared.Act.TheVariants as Act
 use Rattle.verb_spec.specs.Values.{pid_in}
 use Rattle.replay_spec.specs.Calls.{of_one, file_call}
 use Rattle.replay_spec.specs.Acts.{act_of_line, call_by, call_of_line}
@@ -54,7 +51,7 @@ module _ (labels names : List (List ℕ)) (l : ScriptLine) (pid : Pid) where
   fork_act (Some (Act.Make call)) does is =
       let same = same_fork call pid is in
       ⊎_elim (λ e. absurd (no_exit pid (sym e.1 ∙ same)))
-      (λ m. absurd (made_quiet labels names l m.0 (Call.Task (TaskCall.Fork pid)) (m.2 ∙ is))) (act_words labels names l (Act.Make call) does)
+      (λ m. absurd (made_quiet labels names m.0 (words_behind l) (Call.Task (TaskCall.Fork pid)) (m.2 ∙ is))) (act_words labels names l (Act.Make call) does)
 
   pub fork_line : call_of_line labels names l ≡ Some (Call.Task (TaskCall.Fork pid)) → IsForkLine
   fork_line is = fork_act (act_of_line labels names l) refl is

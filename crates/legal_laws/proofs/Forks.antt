@@ -74,13 +74,8 @@ same_parent a b is = cc
 
 -- the verb of a line that forks
 pub forks_by : (l : ScriptLine) (verb : Option Verb) → verb_in l ≡ verb → is_fork (change_by verb l) ≡ true → verb_in l ≡ Some Verb.Fork
-forks_by l None is forks = cc
-forks_by l (Some Verb.Write) is forks = cc
-forks_by l (Some Verb.Ask) is forks = cc
-forks_by l (Some Verb.Wait) is forks = cc
 forks_by l (Some Verb.Fork) is forks = is
-forks_by l (Some Verb.Exit) is forks = cc
-forks_by l (Some (Verb.Call verb)) is forks = cc
+forks_by l verb is forks = absurd cc
 
 same_call : (a b : Call) → ◌≡◌ {A = Option Call} (Some a) (Some b) → a ≡ b
 same_call a b is = cc

@@ -1,4 +1,4 @@
-use Rattle.std.proofs.Common.{◌≡◌, ◌<◌, ℕ, ◌+◌, suc, Bool, true, false, ◌||◌, not, cond, if◌then◌else◌, List, [], ◌∷◌, ◌++◌, length, refl, sym, ap, subst, ◌∙◌, arith, append_assoc, Option, Some, None}
+use Rattle.std.proofs.Common.{◌≡◌, ◌<◌, ℕ, ◌+◌, suc, Bool, true, false, ◌||◌, not, cond, if◌then◌else◌, List, [], ◌∷◌, ◌++◌, length, refl, sym, ap, subst, ◌∙◌, arith, append_assoc, Some, None}
 use Rattle.std.specs.List.{list_any}
 use Rattle.std.specs.Str.{bytes_eq}
 use Rattle.std.proofs.lemmas.Bool.{eqb-true, eq-eqb, ltb-true}
@@ -6,13 +6,10 @@ use Rattle.std.proofs.lemmas.List.Folds.{list_any-append}
 use Rattle.smack_base.specs.declared.ids.Pid.{Pid}
 use Rattle.text_spec.specs.Names.{place_of, has_name}
 use Rattle.verb_spec.specs.declared.Verb.{Verb}
-use Rattle.verb_spec.specs.declared.Verb.TheVariants as Verb
-use Rattle.verb_spec.specs.Words.{word_at}
 use Rattle.script_spec.specs.Lines.{ScriptLine, word_in, verb_in}
-use Rattle.script_spec.specs.Tasks.{TaskChange, Forks, Exits, Awaits, Keeps, change_by, change_of, forked_name, is_wait_for, has_wait, parents_in, task_names, tasks_of, is_latest_child}
-use Rattle.script_spec.specs.Causes.{is_wait_good}
+use Rattle.script_spec.specs.Tasks.{TaskChange, Forks, Exits, Awaits, Keeps, change_by, change_of, forked_name, is_wait_for, has_wait, parents_in, task_names}
 use Rattle.verb_spec.specs.Values.{pid_in}
-use Rattle.plain_laws.proofs.GoodLines.{IsGoodLine, good_verb}
+use Rattle.plain_laws.proofs.GoodLines.{IsGoodLine, good_wait}
 use Rattle.plain_laws.proofs.Tasks.{names_more}
 use Rattle.replay_laws.proofs.KnownWords.{child_has_name}
 use Rattle.legal_laws.proofs.Lineages.{parent_of, latest_is_child}
@@ -31,12 +28,10 @@ place_kept (n ∷ ns) more name there =
 -- a wait for a task that has a name stays one
 still_waits : (names more : List (List ℕ)) (task : ℕ) (change : TaskChange) → task < length names → is_wait_for names task change ≡ true
     → is_wait_for (names ++ more) task change ≡ true
-still_waits names more task (Forks name) there is = cc
-still_waits names more task Exits there is = cc
 still_waits names more task (Awaits name) there is =
     let at : place_of names name ≡ task = eqb-true (place_of names name) task is in
     eq-eqb (place_of (names ++ more) name) task (place_kept names more name (omega (arith, at, there)) ∙ at)
-still_waits names more task Keeps there is = cc
+still_waits names more task change there is = absurd cc
 
 any_of : {X : Type 0} (p q : X → Bool) (xs : List X) → ((x : X) → p x ≡ true → q x ≡ true) → list_any p xs ≡ true → list_any q xs ≡ true
 any_of p q [] gives is = cc
@@ -75,9 +70,6 @@ pub record IsWaitLine (above : List ScriptLine) (l : ScriptLine) (task : ℕ) : 
   pub child : parent_of (parents_in above) task ≡ Some l.task
   pub waited : has_wait (above ++ l ∷ []) task ≡ true
 
-same_verb : (a b : Verb) → ◌≡◌ {A = Option Verb} (Some a) (Some b) → a ≡ b
-same_verb a b is = cc
-
 found_place : (names : List (List ℕ)) (word : List ℕ) (pid : Pid) → pid_in names word ≡ Some pid → place_of names word ≡ pid.0
 found_place names word pid is = by (has_name names word) is
   where
@@ -90,12 +82,7 @@ pub wait_line : (above : List ScriptLine) (l : ScriptLine) (names rest : List (L
 wait_line above l names rest pid good whole verb is =
     let name = word_in 1 l in
     let all = task_names above in
-    let waits : good.verb ≡ Verb.Wait = same_verb good.verb Verb.Wait (sym (good_verb above l good) ∙ verb) in
-    let behind : is_latest_child (tasks_of above) l.task (word_at 0 good.behind).bytes ≡ true =
-    subst (λ v. is_wait_good (tasks_of above) l.task v good.behind ≡ true) waits good.wait in
-    let word : name ≡ (word_at 0 good.behind).bytes = ap (λ ws. (word_at 1 ws).bytes) good.words in
-    let latest : is_latest_child (tasks_of above) l.task name ≡ true =
-    subst (λ (w : List ℕ). is_latest_child (tasks_of above) l.task w ≡ true) (sym word) behind in
+    let latest = good_wait above l good verb in
     let has : has_name all name ≡ true = child_has_name above l.task name latest in
     let there : place_of all name < length all = ltb-true (place_of all name) (length all) has in
     let split : names ≡ all ++ (forked_name (change_of l) ++ rest) =
