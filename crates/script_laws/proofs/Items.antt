@@ -9,12 +9,11 @@ use Rattle.script_spec.specs.declared.ScriptFault.{ScriptFault}
 use Rattle.script_spec.specs.declared.ScriptFault.TheVariants as ScriptFault
 use Rattle.script_spec.specs.declared.What.TheVariants as What
 use Rattle.verb_spec.specs.Verbs.{verb_of, kinds_of, is_unbuilt_verb}
-use Rattle.verb_spec.specs.Kinds.{bad_word}
-use Rattle.verb_spec.specs.GONE.{has_deep_path}
+use Rattle.verb_spec.specs.Kinds.{bad_word, has_word}
 use Rattle.verb_spec.specs.Words.{is_task_name}
 use Rattle.script_spec.specs.Lines.{ScriptLine}
 use Rattle.script_spec.specs.Tasks.{Tasks, tasks_of}
-use Rattle.script_spec.specs.Causes.{first_cause, cause_if, names_unbuilt_file, task_causes, verb_cause, behind_task, line_cause}
+use Rattle.script_spec.specs.Causes.{first_cause, cause_if, is_file_unbuilt, is_path_unbuilt, task_causes, verb_cause, behind_task, line_cause}
 use Rattle.script_spec.specs.Grammar.{Item, items, item_of, is_skipped, spaced_words, text_count, has_text, call_of, first_script_fault, fault_if}
 use Rattle.script_laws.specs.Parses.{AreSkipped, call_spelled}
 
@@ -97,7 +96,8 @@ not_unless false e = some_none Cause.Verb e
 verb_missing : (tasks : Tasks) (task : List ℕ) (name : Placed) (verb : Option Verb) (ws : List Placed) → verb_cause tasks task name verb ws false ≡ None → ⊥
 verb_missing tasks task name None ws e = not_unless (is_unbuilt_verb name.bytes) e
 verb_missing tasks task name (Some verb) ws e =
-    missing (names_unbuilt_file verb ws) _ (bad_word (name ∷ []) (kinds_of verb) ws) (has_deep_path (kinds_of verb) ws) (task_causes tasks task verb ws) e
+    let kinds = kinds_of verb ws in
+    missing (has_word is_file_unbuilt kinds ws) _ (bad_word 3 kinds ws) (has_word is_path_unbuilt kinds ws) (task_causes tasks task kinds ws) e
 
 behind_missing : (tasks : Tasks) (task : List ℕ) (ws : List Placed) → behind_task tasks task ws false ≡ None → ⊥
 behind_missing tasks task [] e = some_none Cause.Verb e
