@@ -1,5 +1,5 @@
-use Rattle.script_text.proofs.Numbers.{too_large}
-use Rattle.script_text.proofs.words.value_of.Goals as goal
+use Rattle.call_words.proofs.Numbers.{too_large}
+use Rattle.call_words.proofs.words.value_of.Goals as goal
 
 pub returns-in_default : goal.returns-in_default
 returns-in_default c =

@@ -1,7 +1,7 @@
 use Rattle.std.proofs.Common.{◌≡◌, ◌++◌, take}
 use Rattle.std.specs.Prelude.{codes}
 use Rattle.std.specs.List.{flat_map}
-use Rattle.run_report.proofs.calls.put_slashed.Given as goal
+use Rattle.call_words.proofs.printing.put_slashed.Given as goal
 
 abbrev pub invariant-loop-name : goal.invariant-loop-name
 invariant-loop-name l = l.out.items ≡ l.fn.out.items ++ flat_map (λ name. codes "/" ++ name) (take l.name-index l.names)

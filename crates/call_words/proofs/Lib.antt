@@ -1,0 +1,4 @@
+pub mod Numbers
+pub mod LongPaths
+pub mod Pids
+pub mod ReadValues
