@@ -1,7 +1,5 @@
-pub mod Numbers
 pub mod WriteNames
 pub mod TaskLists
-pub mod WordKinds
 pub mod LabelWords
 pub mod WordLists
 pub mod LineCauses

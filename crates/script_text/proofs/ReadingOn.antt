@@ -7,7 +7,6 @@ use Rattle.rule_text.proofs.WholeLines.{whole_of_lines}
 use Rattle.rule_text.specs.declared.part.Part.{Part}
 use Rattle.rule_text.specs.Parts.{lines_of, part_words, end_of, first_text_line, as_line}
 use Rattle.script_spec.specs.declared.ScriptFault.{ScriptFault}
-use Rattle.script_spec.specs.declared.ScriptFault.TheVariants as ScriptFault
 use Rattle.script_spec.specs.Lines.{ScriptLine, rows_in, table_of}
 use Rattle.script_spec.specs.Tasks.{tasks_of}
 use Rattle.script_spec.specs.Grammar.{Item, item_of, items, is_skipped, text_count, item_fault, call_of, calls_of, script_of, lines_fault, unless_script_fault, most_lines}

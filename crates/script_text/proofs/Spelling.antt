@@ -1,6 +1,5 @@
 use Rattle.std.proofs.Common.{◌≡◌, ◌≤◌, ◌<◌, ◌+◌, ◌-◌, ℕ, Bool, true, false, not, ◌&&◌, cond, nat_eq, List, [], ◌∷◌, length, take, drop, refl, sym, ap, ◌∙◌, subst, arith, Some, None}
-use Rattle.std.specs.Prelude.{Option, map, nat_le}
-use Rattle.std.specs.List.{list_all}
+use Rattle.std.specs.Prelude.{Option, map, nat_le, ◌||◌}
 use Rattle.std.proofs.lemmas.Bool.{eqb-true, ltb-true}
 use Rattle.std.proofs.lemmas.List.{drop-map, length-drop, length-map}
 use Rattle.text_spec.specs.Texts.{Placed, is_space, whole_lines}
@@ -8,20 +7,18 @@ use Rattle.text_spec.specs.Names.{place_of}
 use Rattle.rule_text.specs.declared.part.Part.{Part}
 use Rattle.rule_text.specs.Parts.{placed, lines_of, part_words}
 use Rattle.verb_spec.specs.declared.Verb.{Verb}
-use Rattle.verb_spec.specs.declared.Verb.TheVariants as Verb
-use Rattle.verb_spec.specs.Verbs.{verb_of, kinds_of}
+use Rattle.verb_spec.specs.Verbs.{verb_of, kinds_of, kinds_by}
+use Rattle.verb_spec.specs.Kinds.{has_word}
 use Rattle.verb_spec.specs.Words.{word_at}
-use Rattle.script_spec.specs.Lines.{ScriptLine, verb_in, label_words}
-use Rattle.script_spec.specs.Tasks.{Tasks, pid_of, is_live_name, is_gone, is_there, is_pid, latest_child, change_of, change_by}
-use Rattle.script_spec.specs.Causes.{is_wait_good}
+use Rattle.script_spec.specs.Lines.{ScriptLine, verb_in, kinds_in, words_behind}
+use Rattle.script_spec.specs.Tasks.{Tasks, pid_of, is_live_name, is_gone, is_there, is_pid, is_latest_child, latest_child, change_of, change_by}
+use Rattle.script_spec.specs.Causes.{is_wait_bad}
 use Rattle.script_spec.specs.Grammar.{text_count}
-use Rattle.script_text.specs.Lines.{has_bytes}
-use Rattle.script_text.specs.Spelled.{spelled_seen, AreLabels, HasVerb, IsSpelledCall}
+use Rattle.script_text.specs.Spelled.{spelled_seen, HasVerb, IsSpelledCall}
 use Rattle.script_text.specs.TaskTables.{IsWaitThere}
 use Rattle.script_text.specs.Scripts.{IsTextOf, IsSpelled}
 use Rattle.script_text.proofs.LineCauses.{line_good}
-use Rattle.script_text.proofs.LabelWords.{and_left, and_right, label_words_good}
-use Rattle.script_text.proofs.WordLists.{words_there}
+use Rattle.script_text.proofs.LabelWords.{and_left, label_words_good}
 use Rattle.script_text.specs.declared.spelled.Spelled.{Spelled}
 use Rattle.script_text.specs.declared.reading.Found.{Found}
 use Rattle.script_text.specs.declared.reading.Place.{Place}
@@ -41,31 +38,37 @@ child_there : (child : Option ℕ) (pid most : ℕ) → ((k : ℕ) → child ≡
 child_there None pid most within is = cc
 child_there (Some k) pid most within is = omega (arith, eqb-true k pid is, within k refl)
 
+latest_good : (b : Bool) → (not b || false) ≡ false → b ≡ true
+latest_good true e = refl
+latest_good false e = cc
+
 -- a task that a good line waits for is there
-wait_there : (tasks : Tasks) (verb : Verb) (l : ScriptLine) (ws : List Placed) (task : ℕ) → verb_in l ≡ Some verb
-    → (word_at 1 l.words).bytes ≡ (word_at 0 ws).bytes → is_wait_good tasks task verb ws ≡ true → length tasks.parents + 1 ≡ length tasks.names
+wait_there : (tasks : Tasks) (verb : Verb) (l : ScriptLine) (task : ℕ) → verb_in l ≡ Some verb
+    → length (words_behind l) ≡ length (kinds_of verb (words_behind l))
+    → has_word (is_wait_bad tasks task) (kinds_of verb (words_behind l)) (words_behind l) ≡ false → length tasks.parents + 1 ≡ length tasks.names
     → IsWaitThere tasks (change_of l)
-wait_there tasks verb l ws task is name good shape =
-    subst (λ (o : Option Verb). IsWaitThere tasks (change_by o l)) (sym is) (by verb good)
+wait_there tasks verb l task is many good shape =
+    subst (λ (o : Option Verb). IsWaitThere tasks (change_by o l)) (sym is) (by verb l.words many good)
   where
-    by : (verb : Verb) → is_wait_good tasks task verb ws ≡ true → IsWaitThere tasks (change_by (Some verb) l)
-    by Verb.Write good = tt
-    by Verb.Ask good = tt
-    by Verb.Wait good =
-        let within = child_there (latest_child tasks.awaited tasks.parents task) (place_of tasks.names (word_at 0 ws).bytes) (length tasks.parents)
-        (latest_there tasks.awaited tasks.parents task) good in
-        rw name (omega (arith, within, shape))
-    by Verb.Fork good = tt
-    by Verb.Exit good = tt
-    by (Verb.Call verb) good = tt
+    by : (verb : Verb) (ws : List Placed) → length (drop 1 ws) ≡ length (kinds_of verb (drop 1 ws))
+        → has_word (is_wait_bad tasks task) (kinds_of verb (drop 1 ws)) (drop 1 ws) ≡ false
+        → IsWaitThere tasks (change_by (Some verb) (record { task = l.task; seq = l.seq; line = l.line; words = ws; text = l.text }))
+    by Verb.Write ws many good = tt
+    by Verb.Ask ws many good = tt
+    by Verb.Wait [] many good = cc
+    by Verb.Wait (v ∷ []) many good = cc
+    by Verb.Wait (v ∷ w ∷ x ∷ ws) many good = cc
+    by Verb.Wait (v ∷ w ∷ []) many good =
+        let within = child_there (latest_child tasks.awaited tasks.parents task) (place_of tasks.names w.bytes) (length tasks.parents)
+        (latest_there tasks.awaited tasks.parents task) (latest_good (is_latest_child tasks task w.bytes) good) in
+        omega (arith, within, shape)
+    by Verb.Fork ws many good = tt
+    by Verb.Exit ws many good = tt
+    by (Verb.Call verb) ws many good = tt
 
 -- a live task is there
 pub live_there : (tasks : Tasks) (name : List ℕ) → is_live_name tasks name ≡ true → pid_of tasks name < length tasks.names
 live_there tasks name live = ltb-true _ _ (and_left (is_there tasks name) _ (and_left _ (not (is_gone tasks (pid_of tasks name))) live))
-
-all_behind : (ws : List Placed) → list_all has_bytes ws ≡ true → list_all has_bytes (drop 1 ws) ≡ true
-all_behind [] are = refl
-all_behind (w ∷ ws) are = and_right (has_bytes w) _ are
 
 verb_behind : (ws : List Part) → word_at 0 (map placed (drop 1 ws)) ≡ word_at 1 (map placed ws)
 verb_behind [] = refl
@@ -75,25 +78,22 @@ drop_two : (ws : List Part) → drop 1 (map placed (drop 1 ws)) ≡ drop 2 (map 
 drop_two [] = refl
 drop_two (w ∷ ws) = refl
 
-second_word : (ws : List Part) → word_at 1 (map placed (drop 1 ws)) ≡ word_at 0 (drop 2 (map placed ws))
-second_word [] = refl
-second_word (w ∷ []) = refl
-second_word (w ∷ v ∷ ws) = refl
-
 -- the words of a call whose line has this verb
-call_is : (tasks : Tasks) (f : Found) (c : Spelled) (ws : List Part) → map placed ws ≡ part_words is_space f.line
-    → HasVerb tasks (map placed ws) true c.verb → c.words.now ≡ drop 1 ws → IsSpelledCall c
-call_is tasks f c ws words has cut =
+call_is : (tasks : Tasks) (c : Spelled) (ws : List Part) → HasVerb tasks (map placed ws) true c.verb → c.words.now ≡ drop 1 ws → IsSpelledCall c
+call_is tasks c ws has cut =
     let good = line_good tasks (map placed ws) true c.verb has in
     let names : map placed c.words.now ≡ map placed (drop 1 ws) = ap (map placed) cut in
-    let two : drop 1 (map placed c.words.now) ≡ drop 2 (map placed ws) = ap (drop 1) names ∙ drop_two ws in
-    let all : list_all has_bytes (map placed ws) ≡ true = ap (list_all has_bytes) words ∙ words_there is_space f.line.at f.line.bytes.now in
+    let two : words_behind (spelled_seen c) ≡ drop 2 (map placed ws) = ap (drop 1) names ∙ drop_two ws in
     let long : length c.words.now ≡ length ws - 1 = ap length cut ∙ length-drop 1 ws in
+    let verb : verb_in (spelled_seen c) ≡ Some c.verb =
+    ap (λ (w : List Placed). verb_of (word_at 0 w).bytes) names ∙ ap (λ (p : Placed). verb_of p.bytes) (verb_behind ws) ∙ has.is in
+    let kinds : kinds_in (spelled_seen c) ≡ kinds_of c.verb (drop 2 (map placed ws)) =
+    ap (λ (o : Option Verb). kinds_by o (words_behind (spelled_seen c))) verb ∙ ap (kinds_of c.verb) two in
     record {
-      verb = ap (λ (w : List Placed). verb_of (word_at 0 w).bytes) names ∙ ap (λ (p : Placed). verb_of p.bytes) (verb_behind ws) ∙ has.is;
-      many = omega (arith, long, length-map ws placed, good.0, good.1.many, length-drop 2 (map placed ws));
-      words = ap (list_all has_bytes) (names ∙ sym (drop-map placed 1 ws)) ∙ all_behind (map placed ws) all;
-      labels = subst (λ (w : List Placed). AreLabels (label_words (kinds_of c.verb) w)) (sym two) (label_words_good (word_at 1 (map placed ws) ∷ []) (kinds_of c.verb) (drop 2 (map placed ws)) good.1.kinds);
+      verb = verb;
+      many = rw kinds (omega (arith, long, length-map ws placed, good.0, good.1.many, length-drop 2 (map placed ws)));
+      few = omega (arith, long, length-map ws placed, has.few);
+      labels = rw (kinds, two) (label_words_good 3 (kinds_of c.verb (drop 2 (map placed ws))) (drop 2 (map placed ws)) good.1.are);
     }
 
 -- a line whose words and text are those of a call
@@ -109,7 +109,8 @@ spelled tasks f c place ws first count words has shape cut line name task seq co
     let e_task : c.task ≡ pid_of tasks (word_at 0 W).bytes =
     task ∙ ap (λ (p : Placed). pid_of tasks p.bytes) (name ∙ ap (word_at 0) words) in
     let e_words : map placed c.words.now ≡ drop 1 W = ap (map placed) cut ∙ sym (drop-map placed 1 ws) ∙ ap (drop 1) words in
-    let call = call_is tasks f c ws words has cut in
+    let call = call_is tasks c ws has cut in
+    let two : words_behind (spelled_seen c) ≡ drop 2 (map placed ws) = ap (λ (w : List Part). drop 1 (map placed w)) cut ∙ drop_two ws in
     let task_named : c.task ≡ pid_of tasks (word_at 0 (map placed ws)).bytes = task ∙ ap (λ (p : Placed). pid_of tasks p.bytes) name in
     record {
       good = rw (← words, ← counted, text_good, has.good) refl;
@@ -124,8 +125,8 @@ spelled tasks f c place ws first count words has shape cut line name task seq co
       call = call;
       task = rw task_named (live_there tasks (word_at 0 (map placed ws)).bytes good.1.live);
       wait =
-          wait_there tasks c.verb (spelled_seen c) (drop 2 (map placed ws)) (pid_of tasks (word_at 0 (map placed ws)).bytes) call.verb
-          (ap (λ (w : List Part). (word_at 1 (map placed w)).bytes) cut ∙ ap (λ (p : Placed). p.bytes) (second_word ws)) good.1.wait shape;
+          wait_there tasks c.verb (spelled_seen c) (pid_of tasks (word_at 0 (map placed ws)).bytes) call.verb (rw two good.1.many) (rw two good.1.wait)
+          shape;
       behind = record {
         rest = rw (← words, ← counted) is_text.behind;
         line = rw (← words, ← counted) next;

@@ -1,5 +1,6 @@
 pub mod Lines
 pub mod Spelled
+pub mod Causes
 pub mod TaskTables
 pub mod Scripts
 pub mod IsScript

@@ -6,7 +6,6 @@ use Rattle.text_spec.specs.Names.{with_names}
 use Rattle.rule_text.specs.declared.part.Part.{Part}
 use Rattle.rule_text.specs.Parts.{lines_of, part_words, end_of, FitsPlaces}
 use Rattle.script_spec.specs.declared.ScriptFault.{ScriptFault}
-use Rattle.script_spec.specs.declared.ScriptFault.TheVariants as ScriptFault
 use Rattle.script_spec.specs.Lines.{ScriptLine, line_rows, rows_in, labels_of, table_of}
 use Rattle.script_spec.specs.Tasks.{Tasks, tasks_of, change_of, forked_name}
 use Rattle.script_spec.specs.Causes.{line_cause}

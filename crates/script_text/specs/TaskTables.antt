@@ -5,7 +5,6 @@ use Rattle.script_spec.specs.Grammar.{most_script_tasks}
 use Rattle.rule_text.specs.declared.part.Part.{Part}
 use Rattle.script_text.specs.declared.tasks.TaskTable.{TaskTable}
 use Rattle.script_text.specs.declared.tasks.Change.{Change}
-use Rattle.script_text.specs.declared.tasks.Change.TheVariants as Change
 
 -- the flag or the count of a task; false or 0 where there is no such task
 abbrev pub flag_in : List Bool → ℕ → Bool

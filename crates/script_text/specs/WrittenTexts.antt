@@ -1,12 +1,10 @@
 use Rattle.std.specs.Prelude.{◌≡◌, ◌+◌, ℕ, Bool, true, false, if◌then◌else◌, List, Option, length, map, All}
 use Rattle.std.specs.List.{flat_map}
 use Rattle.file_spec.specs.declared.SmackFile.{SmackFile}
-use Rattle.file_spec.specs.declared.SmackFile.TheVariants as SmackFile
 use Rattle.file_spec.specs.Writes.{labels_named, names_of_text, rows_of_text}
 use Rattle.smackfs.specs.declared.named_op.NamedOp.{NamedOp}
 use Rattle.smackfs.specs.Named.{named_write, HasGoodNames}
-use Rattle.verb_spec.specs.declared.Verb.{Verb}
-use Rattle.script_spec.specs.Lines.{ScriptLine, text_labels, line_rows}
+use Rattle.script_spec.specs.Lines.{ScriptLine, file_in}
 use Rattle.script_text.specs.declared.texts.WrittenText.{WrittenText}
 
 -- the text of a file of rules becomes a batch
@@ -32,7 +30,5 @@ pub record IsText (file : Option SmackFile) (text : List ℕ) (t : WrittenText) 
   pub good : AreGoodOps t.ops
 
 -- what the text of a call spells
-pub record IsTextOfCall (verb : Verb) (l : ScriptLine) (t : WrittenText) : Type 0 where
-  pub rows : text_rows t ≡ line_rows l
-  pub names : names_of_ops t.ops ≡ text_labels verb l
-  pub good : AreGoodOps t.ops
+abbrev pub IsTextOfCall : ScriptLine → WrittenText → Type 0
+IsTextOfCall l t = IsText (file_in l) l.text.bytes t

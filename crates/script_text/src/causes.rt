@@ -1,85 +1,124 @@
-ghost use Rattle.std.specs.Prelude.{◌≡◌, ◌<◌, ◌≤◌, length, map, drop, Some, All, MatchResult};
+ghost use Rattle.std.specs.Prelude.{◌≡◌, ◌≤◌, None, Some, length, map, All, MatchResult};
 ghost use Rattle.rule_text.specs.Parts.{FitsPlaces, placed};
-ghost use Rattle.verb_spec.specs.Words.{word_at};
-ghost use Rattle.script_spec.specs.Causes.{names_unbuilt_file as name_unbuilt_file, is_task_name_good as is_task_name_good_of, is_name_good as is_name_good_of, is_wait_good as is_wait_good_of, unless_verb as unless_verb_of, words_cause as words_cause_of, line_cause};
+ghost use Rattle.verb_spec.specs.Kinds.{has_word as has_word_of};
+ghost use Rattle.script_spec.specs.Causes.{is_file_unbuilt as is_word_file_unbuilt, is_path_unbuilt as is_word_path_unbuilt, is_name_bad as is_word_name_bad, is_wait_bad as is_word_wait_bad, unless_verb as unless_verb_of, words_cause as words_cause_of, line_cause};
 ghost use Rattle.script_text.specs.TaskTables.{tasks_seen};
+ghost use Rattle.script_text.specs.Causes.{test_seen};
 ghost use Rattle.script_text.specs.Spelled.{HasVerb};
 
 use crate::tasks::TaskTable;
-use crate::verbs::{is_unbuilt_verb, kinds_of, verb_of};
-use crate::words::{bad_word, has_deep_path, is_task_name, is_unbuilt_file, word};
+use call_words::{bad_word, is_deep, is_one_of, is_task_name, is_unbuilt_verb, kinds_of, verb_of};
 use rule_text::Part;
-use script_spec::{CallVerb, Cause, Verb};
-use world_spec::TaskVerb;
+use script_spec::Cause;
+use verb_spec::{Verb, WordKind};
 
-/// Whether a verb and the words behind it name a file that is not built.
-fn names_unbuilt_file(verb: Verb, words: &[Part<'_>]) -> bool
-    ensures { result ≡ name_unbuilt_file verb (map placed words.now) }
+/// The files that scripts do not have yet.
+const UNBUILT_FILES: &[&[u8]] = &[b"unconfined"];
+
+/// What may be wrong with a word of its kind.
+#[derive(Clone, Copy)]
+enum WordTest<'t, 'a> {
+    /// It names a file that is not built.
+    FileUnbuilt,
+    /// It is a path of more than one name, which is not built.
+    PathUnbuilt,
+    /// It names a task that it may not name: one that is there already, or one that is not.
+    NameBad(&'t TaskTable<'a>),
+    /// It names a task that the task of this pid may not wait for.
+    WaitBad(&'t TaskTable<'a>, usize),
+}
+
+fn is_file_unbuilt(kind: WordKind, word: &[u8]) -> bool
+    ensures { result ≡ is_word_file_unbuilt kind word.now }
 {
-    match verb {
-        Verb::Write => is_unbuilt_file(word(words, 0).bytes),
+    match kind {
+        WordKind::File => is_one_of(UNBUILT_FILES, word),
         _ => false,
     }
 }
 
-/// Whether the words behind a verb of tasks name a task that is there, where they signal or trace one.
-fn is_task_name_good(tasks: &TaskTable<'_>, verb: TaskVerb, words: &[Part<'_>]) -> bool
-    ensures { result ≡ is_task_name_good_of (tasks_seen tasks.now) verb (map placed words.now) }
+fn is_path_unbuilt(kind: WordKind, word: &[u8]) -> bool
+    ensures { result ≡ is_word_path_unbuilt kind word.now }
 {
-    match verb {
-        TaskVerb::Kill => tasks.is_there(word(words, 0).bytes),
-        TaskVerb::Trace => tasks.is_there(word(words, 1).bytes),
-        TaskVerb::Relabel | TaskVerb::Drop | TaskVerb::Take => true,
+    match kind {
+        WordKind::Path => is_deep(word),
+        _ => false,
     }
 }
 
-/// Whether the words behind a verb name a task as they may: a new one to fork, one that is there to
-/// signal or to trace.
-fn is_name_good(tasks: &TaskTable<'_>, verb: Verb, words: &[Part<'_>]) -> bool
-    ensures { result ≡ is_name_good_of (tasks_seen tasks.now) verb (map placed words.now) }
+fn is_name_bad(tasks: &TaskTable<'_>, kind: WordKind, word: &[u8]) -> bool
+    ensures { result ≡ is_word_name_bad (tasks_seen tasks.now) kind word.now }
 {
-    match verb {
-        Verb::Fork => !tasks.is_there(word(words, 0).bytes),
-        Verb::Call(CallVerb::Task(verb)) => is_task_name_good(tasks, verb, words),
-        _ => true,
+    match kind {
+        WordKind::NewTask => tasks.is_there(word),
+        WordKind::KnownTask => !tasks.is_there(word),
+        _ => false,
     }
 }
 
-/// Whether a task may wait for the task that the words behind a verb name.
-fn is_wait_good(tasks: &TaskTable<'_>, task: usize, verb: Verb, words: &[Part<'_>]) -> bool
-    ensures { result ≡ is_wait_good_of (tasks_seen tasks.now) task verb (map placed words.now) }
+fn is_wait_bad(tasks: &TaskTable<'_>, task: usize, kind: WordKind, word: &[u8]) -> bool
+    ensures { result ≡ is_word_wait_bad (tasks_seen tasks.now) task kind word.now }
 {
-    match verb {
-        Verb::Wait => tasks.is_latest_child(task, word(words, 0).bytes),
-        _ => true,
+    match kind {
+        WordKind::Child => !tasks.is_latest_child(task, word),
+        _ => false,
     }
 }
 
-/// What is wrong with the words behind a verb, with the text, or with the tasks of the line. The
-/// words begin with the verb.
+fn passes(test: &WordTest<'_, '_>, kind: WordKind, word: &[u8]) -> bool
+    ensures { result ≡ test_seen test.now kind word.now }
+{
+    match test {
+        WordTest::FileUnbuilt => is_file_unbuilt(kind, word),
+        WordTest::PathUnbuilt => is_path_unbuilt(kind, word),
+        WordTest::NameBad(tasks) => is_name_bad(tasks, kind, word),
+        WordTest::WaitBad(tasks, task) => is_wait_bad(tasks, *task, kind, word),
+    }
+}
+
+/// Whether one of some words passes a test by its kind.
+fn has_word(test: &WordTest<'_, '_>, kinds: &[WordKind], words: &[Part<'_>]) -> bool
+    ensures { result ≡ has_word_of (test_seen test.now) kinds.now (map placed words.now) }
+{
+    let mut kinds = kinds;
+    let mut words = words;
+    while let [kind, more @ ..] = kinds {
+        let [word, behind @ ..] = words else {
+            return false;
+        };
+        if passes(test, *kind, word.bytes) {
+            return true;
+        }
+        kinds = more;
+        words = behind;
+    }
+    false
+}
+
+/// What is wrong with words that should be of these kinds, with the text, or with the tasks of the
+/// line.
 fn words_cause(
     tasks: &TaskTable<'_>,
     task: &[u8],
-    verb: Verb,
+    kinds: &[WordKind],
     words: &[Part<'_>],
     text: bool,
 ) -> Option<Cause>
-    requires some { 0 < length words.now }
+    requires few { length kinds.now ≤ 3 }
     requires fit { All FitsPlaces words.now }
-    ensures { result ≡ words_cause_of (tasks_seen tasks.now) task.now (word_at 0 (map placed words.now)) verb (drop 1 (map placed words.now)) text }
+    ensures cause { result ≡ words_cause_of (tasks_seen tasks.now) task.now kinds.now (map placed words.now) text }
+    ensures few { result ≡ None → length words.now ≤ 3 }
 {
-    let kinds = kinds_of(verb);
-    let behind = &words[1..];
-    if names_unbuilt_file(verb, behind) {
+    if has_word(&WordTest::FileUnbuilt, kinds, words) {
         return Some(Cause::NotBuilt);
     }
-    if behind.len() != kinds.len() {
+    if words.len() != kinds.len() {
         return Some(Cause::Words);
     }
     if let Some(k) = bad_word(kinds, words) {
         return Some(Cause::Word { k });
     }
-    if has_deep_path(kinds, behind) {
+    if has_word(&WordTest::PathUnbuilt, kinds, words) {
         return Some(Cause::NotBuilt);
     }
     if !text {
@@ -88,10 +127,10 @@ fn words_cause(
     if !tasks.is_live(task) {
         return Some(Cause::Task);
     }
-    if !is_name_good(tasks, verb, behind) {
+    if has_word(&WordTest::NameBad(tasks), kinds, words) {
         return Some(Cause::Name);
     }
-    if !is_wait_good(tasks, tasks.pid_of(task), verb, behind) {
+    if has_word(&WordTest::WaitBad(tasks, tasks.pid_of(task)), kinds, words) {
         return Some(Cause::Wait);
     }
     None
@@ -112,18 +151,19 @@ pub fn line_verb(tasks: &TaskTable<'_>, words: &[Part<'_>], text: bool) -> Resul
     requires { All FitsPlaces words.now }
     ensures { MatchResult result (λ verb. HasVerb (tasks_seen tasks.now) (map placed words.now) text verb) (λ cause. line_cause (tasks_seen tasks.now) (map placed words.now) text ≡ Some cause) }
 {
-    let task = word(words, 0).bytes;
-    if !is_task_name(task) {
+    let [task, rest @ ..] = words else {
+        return Err(Cause::Word { k: 1 });
+    };
+    if !is_task_name(task.bytes) {
         return Err(Cause::Word { k: 1 });
     }
-    if words.len() < 2 {
+    let [name, behind @ ..] = rest else {
         return Err(Cause::Verb);
-    }
-    let name = word(words, 1).bytes;
-    let Some(verb) = verb_of(name) else {
-        return Err(unless_verb(name));
     };
-    match words_cause(tasks, task, verb, &words[1..], text) {
+    let Some(verb) = verb_of(name.bytes) else {
+        return Err(unless_verb(name.bytes));
+    };
+    match words_cause(tasks, task.bytes, kinds_of(verb, behind), behind, text) {
         Some(cause) => Err(cause),
         None => Ok(verb),
     }

@@ -3,7 +3,8 @@ ghost use Rattle.smack_base.specs.Labels.{is_label};
 ghost use Rattle.text_spec.specs.Names.{with_name, with_names};
 ghost use Rattle.rule_text.specs.Parts.{placed};
 ghost use Rattle.file_spec.specs.Writes.{labels_named};
-ghost use Rattle.script_spec.specs.Lines.{labels_of, label_words, stands_for_label as is_kind_of_label};
+ghost use Rattle.verb_spec.specs.Kinds.{label_words};
+ghost use Rattle.script_spec.specs.Lines.{labels_of};
 ghost use Rattle.script_spec.specs.Grammar.{most_labels};
 ghost use Rattle.smackfs.specs.Named.{named_write, HasGoodNames};
 ghost use Rattle.script_text.specs.Spelled.{spelled_seen, AreLabels, IsSpelledCall};
@@ -11,12 +12,11 @@ ghost use Rattle.script_text.specs.WrittenTexts.{names_of_ops, AreGoodOps, IsTex
 
 use crate::spelled::Spelled;
 use crate::texts::WrittenText;
-use crate::verbs::kinds_of;
 use label_table::{Labels, LabelsFault};
 use rule_text::Part;
-use script_spec::WordKind;
 use smack_base::Label;
 use smackfs::NamedOp;
+use verb_spec::WordKind;
 
 /// Adds the label that a text is.
 fn add_label(labels: &mut Labels, text: &[u8]) -> Result<(), LabelsFault>
@@ -96,22 +96,6 @@ fn add_ops(labels: &mut Labels, ops: &[NamedOp<'_>]) -> Result<(), LabelsFault>
     Ok(())
 }
 
-fn stands_for_label(kind: WordKind) -> bool
-    ensures { result ≡ is_kind_of_label kind }
-{
-    match kind {
-        WordKind::Label => true,
-        WordKind::Modes
-        | WordKind::File
-        | WordKind::Number
-        | WordKind::Path
-        | WordKind::Capability
-        | WordKind::TaskName
-        | WordKind::Signal
-        | WordKind::Way => false,
-    }
-}
-
 /// Adds the words that stand for labels, by the kinds of the words.
 fn add_label_words(
     labels: &mut Labels,
@@ -119,18 +103,24 @@ fn add_label_words(
     words: &[Part<'_>],
 ) -> Result<(), LabelsFault>
     requires are { AreLabels (label_words kinds.now (map placed words.now)) }
-    requires as_many { length kinds.now ≤ length words.now }
     requires limit { length labels.old ≤ most_labels }
     ensures ok { OnOk result (labels.new ≡ with_names labels.old (label_words kinds.now (map placed words.now))) }
     ensures limit { OnOk result (length labels.new ≤ most_labels) }
     ensures many { result ≡ Err LabelsFault.TooMany → most_labels < length (with_names labels.old (label_words kinds.now (map placed words.now))) }
 {
-    for (i, kind) in kinds.iter().enumerate() {
-        if stands_for_label(*kind) {
-            if let Err(fault) = add_label(labels, words[i].bytes) {
+    let mut kinds = kinds;
+    let mut words = words;
+    while let [kind, more @ ..] = kinds {
+        let [word, behind @ ..] = words else {
+            return Ok(());
+        };
+        if let WordKind::Label = *kind {
+            if let Err(fault) = add_label(labels, word.bytes) {
                 return Err(fault);
             }
         }
+        kinds = more;
+        words = behind;
     }
     Ok(())
 }
@@ -143,13 +133,13 @@ pub fn add_labels(
     text: &WrittenText<'_>,
 ) -> Result<(), LabelsFault>
     requires call { IsSpelledCall call.now }
-    requires text { IsTextOfCall call.now.verb (spelled_seen call.now) text.now }
+    requires text { IsTextOfCall (spelled_seen call.now) text.now }
     requires limit { length labels.old ≤ most_labels }
     ensures ok { OnOk result (labels.new ≡ with_names labels.old (labels_of (spelled_seen call.now))) }
     ensures limit { OnOk result (length labels.new ≤ most_labels) }
     ensures many { result ≡ Err LabelsFault.TooMany → most_labels < length (with_names labels.old (labels_of (spelled_seen call.now))) }
 {
-    if let Err(fault) = add_label_words(labels, kinds_of(call.verb), &call.words[1..]) {
+    if let Err(fault) = add_label_words(labels, call.kinds(), call.behind()) {
         return Err(fault);
     }
     add_ops(labels, text.ops.items())

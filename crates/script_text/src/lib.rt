@@ -7,7 +7,8 @@
 //! calls above a line is kept here in tables (`Draft`), so that a script is read in one pass. No
 //! word is copied.
 //!
-//! Stands on rule_text for lines and words, on smackfs for texts and on label_table for the labels.
+//! Stands on rule_text for lines and words, on call_words for what the words are, on smackfs for texts
+//! and on label_table for the labels.
 #![tactic(auto)]
 
 mod causes;
@@ -18,12 +19,8 @@ mod script;
 mod spelled;
 mod tasks;
 mod texts;
-mod verbs;
 mod words;
 
 pub use line::Line;
 pub use script::{MOST_BYTES, Script};
-pub use script_spec::{CallVerb, Cause, ScriptFault, Verb, What};
-pub use verbs::verb_of;
-pub use words::{cap_of, number_of, signal_of, trace_way_of};
-pub use world_spec::{TaskVerb, TraceWay, TreeVerb};
+pub use script_spec::{Cause, ScriptFault, What};

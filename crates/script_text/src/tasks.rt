@@ -7,10 +7,10 @@ ghost use Rattle.script_text.specs.Spelled.{spelled_seen, IsSpelledCall};
 ghost use Rattle.script_spec.specs.Grammar.{most_script_tasks};
 
 use crate::spelled::Spelled;
-use crate::words::word;
+use call_words::word;
 use rule_text::Part;
-use script_spec::Verb;
 use std::alloc::{AllocError, Global};
+use verb_spec::Verb;
 
 /// The most tasks of a script.
 const MOST_TASKS: usize = 64;

@@ -5,9 +5,8 @@ ghost use Rattle.script_text.specs.Spelled.{spelled_seen, IsSpelledCall};
 ghost use Rattle.script_text.specs.WrittenTexts.{IsText, IsTextOfCall, text_rows, is_batch_file};
 
 use crate::spelled::Spelled;
-use crate::words::word;
+use call_words::file_word;
 use file_spec::SmackFile;
-use script_spec::Verb;
 use smackfs::{NamedOps, WritesFault, file_of, read_as, read_writes};
 use std::alloc::{AllocError, Global};
 
@@ -66,11 +65,11 @@ fn read_file<'a>(alloc: Global, name: &[u8], text: &'a [u8]) -> Result<WrittenTe
 pub fn read_text<'a>(alloc: Global, call: &Spelled<'_, 'a>) -> Result<WrittenText<'a>, AllocError>
     requires call { IsSpelledCall call.now }
     requires short { length call.now.text.bytes.now ≤ 65536 }
-    ensures { IfOk result (λ t. IsTextOfCall call.now.verb (spelled_seen call.now) t) }
+    ensures { IfOk result (λ t. IsTextOfCall (spelled_seen call.now) t) }
 {
-    match call.verb {
-        Verb::Write => read_file(alloc, word(call.words, 1).bytes, call.text.bytes),
-        _ => Ok(WrittenText::none(alloc)),
+    match file_word(call.kinds(), call.behind()) {
+        Some(name) => read_file(alloc, name.bytes, call.text.bytes),
+        None => Ok(WrittenText::none(alloc)),
     }
 }
 
