@@ -5,7 +5,6 @@ use Rattle.std.proofs.lemmas.Bool.{eqb-true, eqb-false, eq-eqb, ne_eqb, or_parts
 use Rattle.std.proofs.lemmas.List.Folds.{list_any-append}
 use Rattle.smack_base.specs.declared.ids.Pid.{Pid}
 use Rattle.verb_spec.specs.declared.Verb.{Verb}
-use Rattle.verb_spec.specs.declared.Verb.TheVariants as Verb
 use Rattle.script_spec.specs.Lines.{ScriptLine, word_in, verb_in}
 use Rattle.script_spec.specs.Tasks.{change_by, change_of}
 use Rattle.replay_spec.specs.declared.Act.TheVariants as Act
@@ -87,14 +86,10 @@ module _ (names : List (List ℕ)) (c : ℕ) (P : Option (List ℕ) → Type 0) 
     where
       by : (verb : Option Verb) → verb_in l ≡ verb
           → IsAbove (open_after names X (change_by verb l)) (open_after names (X ++ c ∷ []) (change_by verb l))
-      by None e = kept X new
-      by (Some Verb.Write) e = kept X new
-      by (Some Verb.Ask) e = kept X new
       by (Some Verb.Wait) e = waited X new (pid_in names (word_in 1 l))
           (λ is. not_so [] (ap (act_by [] names l) e ∙ ap (λ p. of_one p (λ x. Act.Wait x)) is))
       by (Some Verb.Fork) e = forked X new (pid_in names (word_in 1 l))
-      by (Some Verb.Exit) e = kept X new
-      by (Some (Verb.Call verb)) e = kept X new
+      by verb e = kept X new
 
 module _ (s : Scripted) (child : Pid) where
   -- lines that do not wait for an open child are orderly without it

@@ -2,7 +2,7 @@ use Rattle.std.specs.Prelude.{◌≡◌, ℕ, ◌==◌, Bool, true, if◌then◌
 use Rattle.std.specs.List.{list_any}
 use Rattle.smack_base.specs.declared.ids.Pid.{Pid}
 use Rattle.script_spec.specs.Lines.{ScriptLine}
-use Rattle.script_spec.specs.Tasks.{TaskChange, Forks, Exits, Awaits, Keeps, change_of}
+use Rattle.script_spec.specs.Tasks.{TaskChange, Forks, Awaits, change_of}
 use Rattle.record_spec.specs.declared.AskedWhat.TheVariants as AskedWhat
 use Rattle.verb_spec.specs.Values.{pid_in}
 use Rattle.replay_spec.specs.Acts.{act_of_line}
@@ -28,9 +28,8 @@ without_open (c ∷ cs) (Some pid) = if c == pid.0 then Some cs else None
 -- the children of a task that are open behind one more of its lines, the latest first, where the line may stand there
 abbrev pub open_after : List (List ℕ) → List ℕ → TaskChange → Option (List ℕ)
 open_after names opens (Forks name) = with_open opens (pid_in names name)
-open_after names opens Exits = Some opens
 open_after names opens (Awaits name) = without_open opens (pid_in names name)
-open_after names opens Keeps = Some opens
+open_after names opens change = Some opens
 
 -- behind lines of a task that left these children open, these lines of it may stand
 abbrev pub IsOrderlyBehind : Scripted → Option (List ℕ) → List ScriptLine → Type 0
