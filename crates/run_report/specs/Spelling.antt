@@ -1,11 +1,6 @@
 use Rattle.std.specs.Prelude.{ℕ, List, []}
-use Rattle.log_spec.specs.Words.{words}
-use Rattle.log_spec.specs.Shown.{Shown, PrintedLine, spelled, spell_line, spell_lines}
-use Rattle.run_report.specs.declared.spelling.Spelling.{Spelling}
-
--- the bytes of some words, each behind a space
-abbrev pub words_by : Spelling → List Shown → List ℕ
-words_by by shown = words (spelled by.labels.now by.names.now shown)
+use Rattle.log_spec.specs.Shown.{PrintedLine, spell_line, spell_lines}
+use Rattle.call_words.specs.declared.spelling.Spelling.{Spelling}
 
 -- the bytes of a line
 abbrev pub line_by : Spelling → PrintedLine → List ℕ

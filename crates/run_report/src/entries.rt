@@ -5,11 +5,11 @@ ghost use Rattle.record_spec.specs.Entries.{entry_head, check_line as check_text
 ghost use Rattle.verb_spec.specs.Verbs.{call_verb as verb_of_call};
 ghost use Rattle.run_report.specs.Spelling.{line_by, lines_spelled_by};
 
-use crate::calls::{call_verb, put_call, put_reply};
 use crate::page::Page;
-use crate::spelling::Spelling;
-use crate::words::{put_call_number, put_decision, put_number, put_triple, put_version};
+use crate::replies::put_reply;
+use crate::words::{put_call_number, put_decision, put_version};
 use audit_line::{put_line, selected};
+use call_words::{Spelling, call_verb, put_call, put_number, put_triple};
 use rules_spec::Verdict;
 use std::alloc::AllocError;
 use world_spec::{Entry, Reply};

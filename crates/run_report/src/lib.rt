@@ -4,11 +4,10 @@
 //! `put_record` writes that text: each line with its line feed is one piece, and what the sink did
 //! not take of it is offered again. A fault ends the writing, and a front of the text was taken.
 //!
-//! Stands on outside for the sink, on label_table for the texts of labels, and on audit_line for the
-//! lines of the system's log; numbers are printed by itoa.
+//! Stands on outside for the sink, on call_words for the words of calls, and on audit_line for the
+//! lines of the system's log.
 #![tactic(auto)]
 
-mod calls;
 mod entries;
 mod fault;
 mod lines;
@@ -17,7 +16,7 @@ mod page;
 mod printed;
 mod record;
 mod refusals;
-mod spelling;
+mod replies;
 mod tasks;
 mod words;
 

@@ -2,16 +2,14 @@ ghost use Rattle.std.specs.Prelude.{◌≡◌, ◌++◌, ◌∷◌, [], length, 
 ghost use Rattle.log_spec.specs.Words.{words, line};
 ghost use Rattle.log_spec.specs.Shown.{Says};
 ghost use Rattle.record_spec.specs.Show.{op_words, op_line as op_text, batch_head, batch_lines as lines_of_batch, asked_head, what_words, answer_words, asked_lines as lines_of_asked, task_line as task_text, task_lines as lines_of_tasks, head_lines as head_of_record, end_line as end_text};
-ghost use Rattle.run_report.specs.Spelling.{words_by, line_by, plain_line, lines_spelled_by};
+ghost use Rattle.call_words.specs.Spelling.{words_by};
+ghost use Rattle.run_report.specs.Spelling.{line_by, plain_line, lines_spelled_by};
 
 use crate::page::Page;
 use crate::refusals::put_refusal;
-use crate::spelling::Spelling;
 use crate::tasks::run_tasks;
-use crate::words::{
-    put_call_number, put_decision, put_label, put_modes, put_name, put_number, put_numbered,
-    put_triple, put_version, put_word,
-};
+use crate::words::{put_call_number, put_decision, put_numbered, put_version};
+use call_words::{Spelling, put_label, put_modes, put_name, put_number, put_triple, put_word};
 use record_spec::{AskedLine, AskedWhat, NumberedTask, RunRecord};
 use rules_spec::Batch;
 use smack_base::RuleOp;

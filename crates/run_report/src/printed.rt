@@ -6,7 +6,7 @@ use crate::entries::entry_lines;
 use crate::lines::{asked_lines, batch_lines};
 use crate::modes::mode_in;
 use crate::page::Page;
-use crate::spelling::Spelling;
+use call_words::Spelling;
 use record_spec::AskedLine;
 use rules_spec::Batch;
 use std::alloc::AllocError;

@@ -10,7 +10,7 @@ use crate::lines::{end_line, head_lines};
 use crate::modes::logging_modes;
 use crate::page::Page;
 use crate::printed::Printed;
-use crate::spelling::Spelling;
+use call_words::Spelling;
 use outside::{Sink, SinkFault, offer};
 use record_spec::RunRecord;
 use smack_base::Bytes;

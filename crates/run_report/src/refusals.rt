@@ -2,7 +2,8 @@ ghost use Rattle.std.specs.Prelude.{◌≡◌, ◌++◌, OnOk};
 ghost use Rattle.log_spec.specs.Words.{words};
 ghost use Rattle.record_spec.specs.Refusals.{label_fault_words, line_fault_words, bad_line_words, refusal_words};
 
-use crate::words::{put_number, put_numbered, put_word};
+use crate::words::put_numbered;
+use call_words::{put_number, put_word};
 use file_spec::Refusal;
 use smack_base::LabelFault;
 use std::alloc::AllocError;

@@ -25,18 +25,6 @@ pub record AddsLabels (table left first whole : List (List ℕ)) : Type 0 where
   pub are : list_all is_label left ≡ true
   pub same : with_names table left ≡ with_names first whole
 
--- the next of the labels is one
-pub label_next : (table left first whole : List (List ℕ)) (n : List ℕ) → AddsLabels table (n ∷ left) first whole → is_label n ≡ true
-label_next table left first whole n adds = and_left (is_label n) (list_all is_label left) adds.are
-
--- it is put into the table
-pub label_put : (table table' left first whole : List (List ℕ)) (n : List ℕ) → AddsLabels table (n ∷ left) first whole
-    → table' ≡ with_name table n → AddsLabels table' left first whole
-label_put table table' left first whole n adds put = record {
-  are = and_right (is_label n) (list_all is_label left) adds.are;
-  same = rw put adds.same;
-}
-
 -- a table that one label makes too long is too long with all
 label_many : (table left first whole : List (List ℕ)) (n : List ℕ) (most : ℕ) → AddsLabels table (n ∷ left) first whole
     → most < length (with_name table n) → most < length (with_names first whole)
@@ -50,12 +38,6 @@ first_many table first whole [] words k w most some there is adds many = absurd 
 first_many table first whole (l ∷ ks) [] k w most some there is adds many = absurd (omega (arith, there))
 first_many table first whole (l ∷ ks) (v ∷ vs) k w most some there is adds many =
     label_many table (label_words ks (map placed vs)) first whole v.bytes.now most (rw is at adds) many
-
--- more names make no shorter table
-pub front_many : (table names more : List (List ℕ)) (most : ℕ) → most < length (with_names table names)
-    → most < length (with_names table (names ++ more))
-front_many table names more most many =
-    rw (fold-append with_name table names more) (omega (arith, many, with_names-longer (with_names table names) more))
 
 -- a word before a first bad one is of its kind
 word_good : (is : Bool) (n : ℕ) (more : Option ℕ) → (if is then more else Some n) ≡ None → (is ≡ true) × (more ≡ None)

@@ -1,7 +1,7 @@
 use Rattle.std.proofs.Common.{◌≡◌, ◌++◌, length}
 use Rattle.log_spec.specs.Shown.{plain_words}
-use Rattle.run_report.specs.Spelling.{words_by}
-use Rattle.run_report.proofs.calls.put_names.Given as goal
+use Rattle.call_words.specs.Spelling.{words_by}
+use Rattle.run_report.proofs.replies.put_names.Given as goal
 
 abbrev pub invariant-loop-name : goal.invariant-loop-name
 invariant-loop-name l = l.out.items ++ words_by l._by (plain_words l.left) ≡ l.fn.out.items ++ words_by l._by (plain_words l.names)
