@@ -1,11 +1,10 @@
 -- A script has as many calls as it may have lines, or fewer.
-use Rattle.std.proofs.Common.{◌≡◌, ℕ, ◌+◌, ◌-◌, ◌<◌, ◌≤◌, ◌==◌, Bool, true, false, if◌then◌else◌, List, [], ◌∷◌, ◌++◌, length, subst, arith, length-append, Option, Some, None, Result, Ok}
+use Rattle.std.proofs.Common.{◌≡◌, ℕ, ◌+◌, ◌-◌, ◌<◌, ◌≤◌, ◌==◌, Bool, true, false, if◌then◌else◌, List, [], ◌∷◌, ◌++◌, length, subst, arith, length-append, Option, Ok}
 use Rattle.std.specs.Prelude.{nat_lt}
 use Rattle.std.proofs.lemmas.Bool.{ltb-false}
 use Rattle.text_spec.specs.Texts.{TextLine, lines_from}
 use Rattle.script_spec.specs.declared.What.TheVariants as What
 use Rattle.script_spec.specs.declared.ScriptFault.{ScriptFault}
-use Rattle.script_spec.specs.declared.ScriptFault.TheVariants as ScriptFault
 use Rattle.script_spec.specs.Lines.{ScriptLine}
 use Rattle.script_spec.specs.Grammar.{item_of, items, is_skipped, text_count, spaced_words, item_fault, call_of, calls_of, lines_fault, script_of, most_bytes, most_lines, parse}
 use Rattle.replay_spec.proofs.KnownLabels.{not_refused}

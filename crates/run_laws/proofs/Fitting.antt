@@ -3,17 +3,14 @@ use Rattle.std.proofs.Common.{◌≡◌, ℕ, zero, suc, ◌+◌, ◌<◌, List,
 use Rattle.atomic_table.specs.Seated.{TableId}
 use Rattle.smack_base.specs.declared.ids.Pid.{Pid}
 use Rattle.world_spec.specs.declared.Call.{Call}
-use Rattle.world_spec.specs.declared.Call.TheVariants as Call
 use Rattle.world_spec.specs.declared.tasks.TaskCall.TheVariants as TaskCall
 use Rattle.world_spec.specs.declared.Reply.TheVariants as Reply
 use Rattle.world_spec.specs.declared.Entry.{Entry}
 use Rattle.verb_spec.specs.declared.Verb.{Verb}
-use Rattle.verb_spec.specs.declared.Verb.TheVariants as Verb
 use Rattle.script_spec.specs.Lines.{ScriptLine, word_in, verb_in, table_of}
 use Rattle.script_spec.specs.Tasks.{change_by, change_of, forked_name, task_names}
 use Rattle.record_spec.specs.declared.AskedLine.{AskedLine}
 use Rattle.record_spec.specs.declared.AskedWhat.{AskedWhat}
-use Rattle.record_spec.specs.declared.AskedWhat.TheVariants as AskedWhat
 use Rattle.record_spec.specs.declared.RunRecord.{RunRecord}
 use Rattle.replay_spec.specs.declared.Act.TheVariants as Act
 use Rattle.replay_spec.specs.Calls.{of_one}

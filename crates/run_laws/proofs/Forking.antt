@@ -5,7 +5,6 @@ use Rattle.atomic_table.specs.Seated.{TableId}
 use Rattle.smack_base.specs.declared.ids.Pid.{Pid}
 use Rattle.rules_spec.specs.declared.Batch.{Batch}
 use Rattle.world_spec.specs.declared.Call.{Call}
-use Rattle.world_spec.specs.declared.Call.TheVariants as Call
 use Rattle.world_spec.specs.declared.tasks.TaskCall.TheVariants as TaskCall
 use Rattle.world_spec.specs.declared.Entry.{Entry}
 use Rattle.world_spec.specs.Worlds.{TaskRow, world_first, was_made, is_live, most_tasks}

@@ -4,16 +4,13 @@ use Rattle.std.specs.List.{list_any, AllByRecursion}
 use Rattle.std.proofs.lemmas.Bool.{eqb-true, eq-eqb, ne_eqb, ltb-true, and_parts, and_from, and_right, or_from, or_right}
 use Rattle.text_spec.specs.Names.{place_of, has_name}
 use Rattle.verb_spec.specs.declared.Verb.{Verb}
-use Rattle.verb_spec.specs.declared.Verb.TheVariants as Verb
-use Rattle.verb_spec.specs.Words.{word_at}
-use Rattle.script_spec.specs.Lines.{ScriptLine, word_in, table_of}
-use Rattle.script_spec.specs.Tasks.{Tasks, TaskChange, Forks, Exits, Awaits, Keeps, change_by, change_of, forked_name, is_wait_for, task_names, tasks_of, latest_child, is_pid, is_latest_child}
-use Rattle.script_spec.specs.Causes.{is_wait_good}
+use Rattle.script_spec.specs.Lines.{ScriptLine, word_in, verb_in, table_of}
+use Rattle.script_spec.specs.Tasks.{Tasks, TaskChange, Awaits, change_by, change_of, forked_name, is_wait_for, task_names, tasks_of, latest_child, is_pid, is_latest_child}
 use Rattle.script_text.specs.TaskTables.{table_after, IsWaitThere}
 use Rattle.script_text.proofs.TaskSteps.{tasks_more, waits_more}
 use Rattle.verb_spec.specs.Values.{pid_in}
 use Rattle.replay_spec.specs.Plain.{IsNameTable}
-use Rattle.plain_laws.proofs.GoodLines.{IsGoodLine, AreGoodLines, good_verb, good_lines}
+use Rattle.plain_laws.proofs.GoodLines.{IsGoodLine, AreGoodLines, good_verb, good_wait, good_lines}
 use Rattle.plain_laws.proofs.Tables.{has_before}
 use Rattle.plain_laws.proofs.Tasks.{names_more, names_behind, names_are_a_table}
 use Rattle.replay_laws.proofs.KnownWords.{child_has_name}
@@ -143,10 +140,8 @@ kept tasks p = same_children (λ t. tasks.awaited t || false) tasks.awaited task
 -- nobody waits for a task that is not there yet
 module _ (tasks : Tasks) (n : ℕ) (far : length tasks.names ≤ n) where
   no_wait : (change : TaskChange) → IsWaitThere tasks change → is_wait_for tasks.names n change ≡ false
-  no_wait (Forks name) there = refl
-  no_wait Exits there = refl
   no_wait (Awaits name) there = ne_eqb (place_of tasks.names name) n (λ same. absurd (omega (arith, same, there, far)))
-  no_wait Keeps there = refl
+  no_wait change there = refl
 
   no_waits : (ls : List ScriptLine) → AllByRecursion (λ k. IsWaitThere tasks (change_of k)) ls
       → list_any (λ k. is_wait_for tasks.names n (change_of k)) ls ≡ false
@@ -169,42 +164,31 @@ module _ (above : List ScriptLine) (l : ScriptLine) (good : IsGoodLine above l) 
   abbrev after : Verb → Tasks
   after verb = table_after tasks l.task (change_by (Some verb) l)
 
-  abbrev IsGoodWait : Verb → Type 0
-  IsGoodWait verb = is_wait_good tasks l.task verb good.behind ≡ true
-
-  latest : IsGoodWait Verb.Wait → is_latest_child tasks l.task name ≡ true
-  latest wait =
-      subst (λ (w : List ℕ). is_latest_child tasks l.task w ≡ true) (sym (ap (λ ws. (word_at 1 ws).bytes) good.words)) wait
+  latest : verb_in l ≡ Some Verb.Wait → is_latest_child tasks l.task name ≡ true
+  latest is = good_wait above l good is
 
   -- a task that it waits for is there
-  there_by : (verb : Verb) → IsGoodWait verb → IsWaitThere tasks (change_by (Some verb) l)
-  there_by Verb.Write wait = tt
-  there_by Verb.Ask wait = tt
-  there_by Verb.Wait wait = ltb-true (place_of tasks.names name) (length tasks.names) (child_has_name above l.task name (latest wait))
-  there_by Verb.Fork wait = tt
-  there_by Verb.Exit wait = tt
-  there_by (Verb.Call verb) wait = tt
+  there_by : (verb : Verb) → verb_in l ≡ Some verb → IsWaitThere tasks (change_by (Some verb) l)
+  there_by Verb.Wait is = ltb-true (place_of tasks.names name) (length tasks.names) (child_has_name above l.task name (latest is))
+  there_by verb is = tt
 
   wait_there : IsWaitThere tasks (change_of l)
-  wait_there = subst (λ v. IsWaitThere tasks (change_by v l)) (sym (good_verb above l good)) (there_by good.verb good.wait)
+  wait_there = subst (λ v. IsWaitThere tasks (change_by v l)) (sym (good_verb above l good)) (there_by good.verb (good_verb above l good))
 
   -- it leaves the children of other tasks as they were
   module _ (p : ℕ) (apart : (l.task == p) ≡ false) where
-    other_by : (verb : Verb) → IsGoodWait verb → open_in (after verb) p ≡ open_in tasks p
-    other_by Verb.Write wait = kept tasks p
-    other_by Verb.Ask wait = kept tasks p
-    other_by Verb.Wait wait =
-        others_left tasks.awaited (after Verb.Wait).awaited (place_of tasks.names name) tasks.parents l.task p (λ n low. refl) (latest wait) apart
-    other_by Verb.Fork wait =
+    other_by : (verb : Verb) → verb_in l ≡ Some verb → open_in (after verb) p ≡ open_in tasks p
+    other_by Verb.Wait is =
+        others_left tasks.awaited (after Verb.Wait).awaited (place_of tasks.names name) tasks.parents l.task p (λ n low. refl) (latest is) apart
+    other_by Verb.Fork is =
         ap (λ (t : Bool). if t && not ((after Verb.Fork).awaited (length (l.task ∷ tasks.parents)))
         then length (l.task ∷ tasks.parents) ∷ children (after Verb.Fork).awaited tasks.parents p
         else children (after Verb.Fork).awaited tasks.parents p) apart ∙ kept tasks p
-    other_by Verb.Exit wait = kept tasks p
-    other_by (Verb.Call verb) wait = kept tasks p
+    other_by verb is = kept tasks p
 
     other_open : open_in (behind_line above l) p ≡ open_in tasks p
     other_open = subst (λ v. open_in (table_after tasks l.task (change_by v l)) p ≡ open_in tasks p) (sym (good_verb above l good))
-        (other_by good.verb good.wait)
+        (other_by good.verb (good_verb above l good))
 
   -- it opens or closes a child of its own task
   module _ (names rest : List (List ℕ)) (table : IsNameTable names) (waits : AllByRecursion (λ k. IsWaitThere tasks (change_of k)) above) where
@@ -233,33 +217,30 @@ module _ (above : List ScriptLine) (l : ScriptLine) (good : IsGoodLine above l) 
         ∙ sym (ap (λ (t : Bool). Some (if t then n ∷ children (after Verb.Fork).awaited tasks.parents l.task
         else children (after Verb.Fork).awaited tasks.parents l.task)) test)))
 
-    closes : IsGoodWait Verb.Wait → IsSplit Verb.Wait → IsOpen Verb.Wait
-    closes wait split =
+    closes : verb_in l ≡ Some Verb.Wait → IsSplit Verb.Wait → IsOpen Verb.Wait
+    closes is split =
         let c = place_of tasks.names name in
-        let has = child_has_name above l.task name (latest wait) in
+        let has = child_has_name above l.task name (latest is) in
         let known : has_name names name ≡ true = ap (λ ns. has_name ns name) split ∙ has_before tasks.names rest name has in
         let place : place_of names name ≡ c =
         ap (λ ns. place_of ns name) split ∙ place_kept tasks.names rest name (ltb-true c (length tasks.names) has) in
         let found : pid_in names name ≡ Some (record { 0 = c }) =
         λ i. if known i then Some (record { 0 = place i }) else None in
-        let own = own_left tasks.awaited (after Verb.Wait).awaited c tasks.parents l.task (λ n low. refl) (latest wait) in
+        let own = own_left tasks.awaited (after Verb.Wait).awaited c tasks.parents l.task (λ n low. refl) (latest is) in
         (λ i. without_open (own i) (found i))
         ∙ ap (λ (t : Bool). if t then Some (open_in (after Verb.Wait) l.task) else None) (eq-eqb c c refl)
 
-    own_by : (verb : Verb) → IsGoodWait verb → IsSplit verb → IsOpen verb
-    own_by Verb.Write wait split = keeps
-    own_by Verb.Ask wait split = keeps
-    own_by Verb.Wait wait split = closes wait split
-    own_by Verb.Fork wait split = forks split
-    own_by Verb.Exit wait split = keeps
-    own_by (Verb.Call verb) wait split = keeps
+    own_by : (verb : Verb) → verb_in l ≡ Some verb → IsSplit verb → IsOpen verb
+    own_by Verb.Wait is split = closes is split
+    own_by Verb.Fork is split = forks split
+    own_by verb is split = keeps
 
     own_open : names ≡ tasks.names ++ (forked_name (change_of l) ++ rest)
         → open_after names (open_in tasks l.task) (change_of l) ≡ Some (open_in (behind_line above l) l.task)
     own_open split =
         subst (λ v. open_after names (open_in tasks l.task) (change_by v l) ≡ Some (open_in (table_after tasks l.task (change_by v l)) l.task))
         (sym (good_verb above l good))
-        (own_by good.verb good.wait
+        (own_by good.verb (good_verb above l good)
         (subst (λ v. names ≡ tasks.names ++ (forked_name (change_by v l) ++ rest)) (good_verb above l good) split))
 
 module _ (lines : List ScriptLine) (table : IsNameTable (task_names lines)) (p : ℕ) where

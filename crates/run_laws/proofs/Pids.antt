@@ -10,9 +10,7 @@ use Rattle.world_spec.specs.declared.Why.TheVariants as Why
 use Rattle.world_spec.specs.declared.Part.TheVariants as Part
 use Rattle.world_spec.specs.declared.tasks.TaskCall.TheVariants as TaskCall
 use Rattle.world_spec.specs.declared.Call.{Call}
-use Rattle.world_spec.specs.declared.Call.TheVariants as Call
 use Rattle.world_spec.specs.declared.Reply.{Reply}
-use Rattle.world_spec.specs.declared.Reply.TheVariants as Reply
 use Rattle.world_spec.specs.declared.Entry.{Entry}
 use Rattle.world_spec.specs.Worlds.{World, TaskRow, is_of_pid, was_made, is_live, changed_at, creds_in, creds_or_first, creds_of, task_begun, most_tasks}
 use Rattle.world_spec.specs.TaskCalls.{TaskEffect, NoChange, NewCreds, LifeEnds, NewChild, NewSignal, SignalTaken, tasks_after, task_left}

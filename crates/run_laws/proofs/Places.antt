@@ -8,17 +8,12 @@ use Rattle.std.proofs.lemmas.Grind.{flat_map-append}
 use Rattle.smack_base.specs.declared.ids.Pid.{Pid}
 use Rattle.file_spec.specs.declared.Refusal.{Refusal}
 use Rattle.file_spec.specs.declared.Compiled.{Compiled}
-use Rattle.file_spec.specs.declared.Compiled.TheVariants as Compiled
 use Rattle.file_spec.specs.Files.{compiled}
 use Rattle.world_spec.specs.declared.tasks.TaskCall.TheVariants as TaskCall
 use Rattle.world_spec.specs.declared.Call.TheVariants as Call
-use Rattle.verb_spec.specs.declared.Verb.{Verb}
-use Rattle.verb_spec.specs.declared.Verb.TheVariants as Verb
-use Rattle.script_spec.specs.Lines.{ScriptLine, word_in, verb_in}
+use Rattle.script_spec.specs.Lines.{ScriptLine, word_in, words_behind}
 use Rattle.script_spec.specs.Tasks.{change_by, change_of, forked_name, is_exit, has_exit, task_names}
 use Rattle.replay_spec.specs.declared.Act.{Act}
-use Rattle.replay_spec.specs.declared.Act.TheVariants as Act
-use Rattle.verb_spec.specs.Values.{pid_in}
 use Rattle.replay_spec.specs.Calls.{of_one, file_call}
 use Rattle.replay_spec.specs.Acts.{act_of_line, call_by, call_of_line}
 use Rattle.replay_spec.proofs.ReadCalls.{act_words}
@@ -195,7 +190,7 @@ module _ (labels names : List (List ℕ)) (l : ScriptLine) where
   exit_act (Some (Act.Fork pid)) does is = cc
   exit_act (Some (Act.Make call)) does is =
       ⊎_elim (λ e. ap (λ v. is_exit (change_by v l)) e.0)
-      (λ m. absurd (made_quiet labels names l m.0 (Call.Task TaskCall.Exit) (m.2 ∙ is))) (act_words labels names l (Act.Make call) does)
+      (λ m. absurd (made_quiet labels names m.0 (words_behind l) (Call.Task TaskCall.Exit) (m.2 ∙ is))) (act_words labels names l (Act.Make call) does)
 
   -- a line that ends its task has the verb for it
   pub exit_line : call_of_line labels names l ≡ Some (Call.Task TaskCall.Exit) → is_exit (change_of l) ≡ true

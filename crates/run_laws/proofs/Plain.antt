@@ -1,5 +1,5 @@
 -- The record of a script's tasks is plain.
-use Rattle.std.proofs.Common.{◌≡◌, ℕ, zero, suc, ◌<◌, List, [], ◌∷◌, ◌++◌, length, Bool, true, sym, refl, ◌∙◌, subst, Option, Some}
+use Rattle.std.proofs.Common.{◌≡◌, ℕ, zero, suc, ◌<◌, List, [], ◌∷◌, ◌++◌, length, Bool, true, sym, refl, subst}
 use Rattle.std.specs.List.{AllByRecursion}
 use Rattle.atomic_table.specs.Seated.{TableId}
 use Rattle.rules_spec.specs.declared.Batch.{Batch}
@@ -7,22 +7,17 @@ use Rattle.rules_spec.specs.declared.Verdict.{Verdict}
 use Rattle.world_spec.specs.declared.Entry.{Entry}
 use Rattle.world_spec.specs.Worlds.{World, world_first}
 use Rattle.world_spec.specs.Replays.{AreSteps, version_of, after_entry}
-use Rattle.verb_spec.specs.declared.Verb.{Verb}
-use Rattle.verb_spec.specs.declared.Verb.TheVariants as Verb
-use Rattle.verb_spec.specs.declared.WordKind.TheVariants as WordKind
-use Rattle.verb_spec.specs.Verbs.{kinds_of}
 use Rattle.verb_spec.specs.Words.{is_file_name}
 use Rattle.script_spec.specs.Lines.{ScriptLine, word_in, table_of}
 use Rattle.script_spec.specs.Tasks.{task_names}
 use Rattle.record_spec.specs.declared.AskedLine.{AskedLine}
 use Rattle.record_spec.specs.declared.AskedWhat.{AskedWhat}
-use Rattle.record_spec.specs.declared.AskedWhat.TheVariants as AskedWhat
 use Rattle.replay_spec.specs.Plain.{IsPlainBatch, IsPlainCall, IsPlainEntry, IsPlainVerdict, IsPlainReply, IsPlainAnswer, IsPlainWhat, IsPlainAsked}
 use Rattle.replay_spec.proofs.KnownLabels.{known_id}
 use Rattle.replay_spec.specs.declared.Act.TheVariants as Act
-use Rattle.replay_spec.proofs.ReadCalls.{known_pid, act_words}
-use Rattle.plain_laws.proofs.KindsOfWords.{kind_1}
-use Rattle.plain_laws.proofs.GoodLines.{AreOfKinds, good_verb, AreGoodLines, good_lines}
+use Rattle.replay_spec.proofs.ReadValues.{known_pid}
+use Rattle.replay_spec.proofs.ReadCalls.{act_words}
+use Rattle.plain_laws.proofs.GoodLines.{AreGoodLines, good_lines}
 use Rattle.plain_laws.proofs.LabelTables.{labels_are_a_table, table_has_first}
 use Rattle.plain_laws.proofs.Tasks.{names_are_a_table}
 use Rattle.plain_laws.proofs.PlainWrites.{compiled_is_plain}
@@ -30,6 +25,7 @@ use Rattle.plain_laws.proofs.PlainVerdicts.{answer_is_plain}
 use Rattle.plain_laws.proofs.PlainWorlds.{IsPlainWorld, first_world_is_plain}
 use Rattle.plain_laws.proofs.PlainSteps.{step_is_plain}
 use Rattle.plain_laws.proofs.PlainRuns.{HasFileName}
+use Rattle.plain_laws.proofs.Replays.{line_named}
 use Rattle.legal_spec.specs.Calls.{Stands}
 use Rattle.legal_spec.specs.Legal.{IsSo}
 use Rattle.legal_spec.specs.Lines.{IsAskedOfLine}
@@ -47,16 +43,10 @@ use Rattle.run_laws.proofs.Sorting.{in_order}
 use Rattle.run_laws.proofs.Creds.{all_stand}
 use Rattle.run_laws.proofs.Legal.{record_of, life, entry_task, batch_task, line_number, LineOf, line_of_deed, are_answered}
 
-same_verb : (a b : Verb) → ◌≡◌ {A = Option Verb} (Some a) (Some b) → a ≡ b
-same_verb a b is = cc
-
 -- a write of a script is to a word that names a file
 file_named : (above ls : List ScriptLine) → AreGoodLines above ls → (l : ScriptLine) → Has l ls → HasFileName l
 file_named above [] good l h is = elim h [ ]
-file_named above (x ∷ ls) good l here is =
-    let g = good.0 in
-    kind_1 x g.first WordKind.File (WordKind.Number ∷ []) g.behind g.words
-    (subst (λ verb. AreOfKinds (g.first ∷ []) (kinds_of verb) g.behind) (same_verb g.verb Verb.Write (sym (good_verb above x g) ∙ is)) g.kinds)
+file_named above (x ∷ ls) good l here is = line_named above x good.0 is
 file_named above (x ∷ ls) good l (there h) is = file_named (above ++ x ∷ []) ls good.1 l h is
 
 -- steps from a plain world, of calls that lines give, are plain

@@ -5,7 +5,7 @@ use Rattle.std.proofs.lemmas.Bool.{cases_Bool, leb-true, leb-false, eqb-true}
 use Rattle.std.proofs.lemmas.List.Sums.{sum_by-append}
 use Rattle.verb_spec.specs.declared.Verb.TheVariants as Verb
 use Rattle.script_spec.specs.Lines.{ScriptLine, verb_in}
-use Rattle.script_spec.specs.Tasks.{TaskChange, Forks, Exits, Awaits, Keeps, change_of, forked_name, is_fork, calls_by, task_names}
+use Rattle.script_spec.specs.Tasks.{TaskChange, Forks, change_of, forked_name, is_fork, calls_by, task_names}
 use Rattle.live_table.specs.Lists.{Has, here, there}
 use Rattle.plain_laws.proofs.GoodLines.{IsGoodLine, AreGoodLines}
 use Rattle.plain_laws.proofs.Tasks.{names_more}
@@ -73,9 +73,7 @@ calls_and_lines s t q (d ∷ ds) (l ∷ ls) f = let i = calls_and_lines s t (q +
 -- a change forks one task or none
 one_or_none : (c : TaskChange) → ((is_fork c ≡ true) × (length (forked_name c) ≡ 1)) ⊎ (length (forked_name c) ≡ 0)
 one_or_none (Forks name) = inl (refl, refl)
-one_or_none Exits = inr refl
-one_or_none (Awaits name) = inr refl
-one_or_none Keeps = inr refl
+one_or_none change = inr refl
 
 -- the line that forks the task of a pid
 pub record ForkLine (lines : List ScriptLine) (pid : ℕ) : Type 0 where
