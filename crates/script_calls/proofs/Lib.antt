@@ -1,3 +1,0 @@
-pub mod LongPaths
-pub mod PackedWords
-pub mod Pids
