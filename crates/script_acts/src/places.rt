@@ -9,9 +9,10 @@ ghost use Rattle.runs_spec.specs.Scripts.{segment};
 ghost use Rattle.runs_spec.specs.Orders.{NoneWaits};
 ghost use Rattle.script_acts.specs.Places.{IsWaitAt};
 
-use script_calls::{pid_in, words_of};
-use script_text::{Line, Verb, verb_of};
+use call_words::{pid_in, verb_of};
+use script_text::Line;
 use smack_base::{Bytes, Pid};
+use verb_spec::Verb;
 
 /// The next line of a script task between two places, and the place behind it; None where there is
 /// none.
@@ -43,7 +44,7 @@ fn awaits(names: &[Bytes], line: &Line<'_>, child: Pid) -> bool
     ensures is_not { OnFalse result ((labels : List (List ℕ)) → IsAskedOfLine labels names.now (call_seen line.now) (AskedWhat.Wait child) → ⊥) }
 {
     match verb_of(line.verb.bytes) {
-        Some(Verb::Wait) => pid_in(names, words_of(line).one) == Some(child),
+        Some(Verb::Wait) => pid_in(names, line.word(1)) == Some(child),
         _ => false,
     }
 }

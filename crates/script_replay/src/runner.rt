@@ -13,7 +13,7 @@ ghost use Rattle.script_replay.specs.Running.{run_seen, IsRunning, Runs};
 use asked_lines::{AskedByTask, AskedLine, AskedWhat};
 use label_table::Labels;
 use rule_fold::{Batch, Journal, RuleIndex};
-use script_calls::{Act, act_of, words_of};
+use script_calls::{Act, act_of};
 use script_text::Line;
 use smack_base::{Bytes, Cap, Pid, RuleOps};
 use smack_decide::{cases, effective};
@@ -94,7 +94,7 @@ impl Runner {
         requires running { IsRunning self.old }
         ensures { OnOk result (Runs self.old self.new (noted (run_seen self.old) (call_seen line.now) (AskedWhat.Refused (word_in 1 (call_seen line.now)) fault))) }
     {
-        let file = Bytes::from_slice(alloc, words_of(line).one)?;
+        let file = Bytes::from_slice(alloc, line.word(1))?;
         self.note(line, AskedWhat::Refused { file, fault })
     }
 
@@ -134,7 +134,7 @@ impl Runner {
         requires room { length self.old.world.trail < most_entries }
         ensures { OnOk result (Runs self.old self.new (written (run_seen self.old) (call_seen line.now) (compiled labels.now (word_in 1 (call_seen line.now)) line.now.text.bytes.now))) }
     {
-        match compile(alloc, labels, words_of(line).one, line.text.bytes) {
+        match compile(alloc, labels, line.word(1), line.text.bytes) {
             Ok(Compiled::Rules(ops)) => self.write_rules(alloc, line, ops),
             Ok(Compiled::SelfRules(rules)) => {
                 self.enter(alloc, line, Call::Task(TaskCall::SelfRules { rules }))

@@ -11,7 +11,7 @@ ghost use Rattle.script_run.specs.Stops.{IsCause};
 
 use crate::stage::{ScriptLines, Stage};
 use asked_lines::{AskedBlocks, AskedLine, AskedWhat};
-use script_calls::{Act, words_of};
+use script_calls::Act;
 use script_text::Line;
 use smack_base::{Bytes, LabelId, Modes};
 use smack_kernel::{Asked, Called, Task, Written};
@@ -91,7 +91,7 @@ fn refuse(
     ensures stop { IfSome result (λ stop. stop ≡ Stop.Memory) }
 {
     let (task, seq, version) = call;
-    let Ok(file) = Bytes::from_slice(alloc, words_of(line).one) else {
+    let Ok(file) = Bytes::from_slice(alloc, line.word(1)) else {
         return Some(Stop::Memory);
     };
     note(
@@ -121,7 +121,7 @@ fn write_line<R: Wait, G, S: ScriptLines>(
 {
     let number = task.number();
     let seq = task.made() + 1;
-    let file = words_of(line).one;
+    let file = line.word(1);
     match stage
         .kernel
         .write(rt, stage.alloc, task, file, line.text.bytes)
